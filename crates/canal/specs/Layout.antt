@@ -1,0 +1,46 @@
+use Prim.Native.Nat.{ℕ, _+_, _-_, _*_, _/_, _%_, _^_}
+use Rattle.canal.specs.declared.layout.Field.{Field}
+use Rattle.model.specs.Faults.{fault}
+use Rattle.model.specs.declared.fault.Fault.{Fault}
+use Rattle.model.specs.declared.fault.Reason.the-variants.{OtherTag, OutOfRange}
+use Rattle.std.specs.declared.option.Option.{Option}
+use Rattle.std.specs.declared.option.Option.the-variants.{Some, None}
+use Rattle.std.specs.declared.result.Result.{Result}
+use Rattle.std.specs.declared.result.Result.the-variants.{Ok, Err}
+use lib.Dec.{eqb, leb, ltb}
+use mathlib.Core.Bool.{Bool, true, false, cond, _||_}
+use mathlib.Core.List.{List, [], _∷_, map}
+use mathlib.Core.Path.{_≡_}
+
+-- The number in the field's bits, the most significant of the 64 bits being bit 0.
+abbrev pub content : Field → ℕ → ℕ
+content f bits = bits / 2 ^ (64 - f .at - f .width) % 2 ^ f .width
+
+-- The number, if the field may hold it; else the refusal, at the field's first bit.
+abbrev pub ranged : Field → ℕ → Result ℕ Fault
+ranged f v = cond (ltb v (f .least) || ltb (f .most) v) (Err (fault OutOfRange (f .at))) (Ok v)
+
+-- The first of the numbers that its field may not hold, as a refusal.
+abbrev pub bad : List Field → List ℕ → Option Fault
+bad [] vs = None
+bad (f ∷ fs) [] = None
+bad (f ∷ fs) (v ∷ vs) = cond (ltb v (f .least) || ltb (f .most) v) (Some (fault OutOfRange (f .at))) (bad fs vs)
+
+-- The tag stands in the first two bits.
+abbrev pub head : Field
+head = record { at = 0; width = 2; least = 1; most = 2 }
+
+-- The first bit of the 64 that no operation of this tag and these fields has, as a refusal.
+abbrev pub foreign : ℕ → List Field → ℕ → Option Fault
+foreign tag fs bits = cond (eqb (content head bits) tag) (bad fs (map (λ f. content f bits) fs)) (Some (fault OtherTag 0))
+
+-- The numbers of the fields, side by side behind what comes before them.
+abbrev pub joined : ℕ → List Field → List ℕ → ℕ
+joined before [] vs = before
+joined before (f ∷ fs) [] = before
+joined before (f ∷ fs) (v ∷ vs) = joined (before * 2 ^ f .width + v) fs vs
+
+-- What a maker answers: a value with this meaning where nothing is bad, else the refusal.
+abbrev pub Made : {X V : Type 0} → (X → V) → Option Fault → V → Result X Fault → Type 0
+Made means wrong v (Ok x) = (wrong ≡ None) × (means x ≡ v)
+Made means wrong v (Err e) = wrong ≡ Some e
