@@ -15,6 +15,21 @@ pub struct Field {
     pub most: u32,
 }
 
+// Every operation begins with its type's tag and ends with its number.
+pub(crate) const TAG: Field = Field {
+    at: 0,
+    width: 2,
+    least: 1,
+    most: 2,
+};
+
+pub(crate) const NUMBER: Field = Field {
+    at: 40,
+    width: 24,
+    least: 0,
+    most: 16777215,
+};
+
 impl Field {
     // The number, if the field may hold it.
     pub(crate) fn check(self, value: u32) -> Result<u32, Fault>

@@ -1,7 +1,11 @@
 // Gate orders and water transfers, the machines that take them, and the calendar.
 mod gate_order;
 mod layout;
+mod transfer;
 
 pub use gate_order::GateOrder;
 pub use gate_order::GateOrderOperation;
 pub use gate_order::GateOrderWord;
+pub use transfer::Transfer;
+pub use transfer::TransferOperation;
+pub use transfer::TransferWord;
