@@ -1,3 +1,4 @@
 pub mod Layout
 pub mod GateOrders
 pub mod Transfers
+pub mod Boards

@@ -1,8 +1,15 @@
 // Gate orders and water transfers, the machines that take them, and the calendar.
+mod board;
 mod gate_order;
 mod layout;
 mod transfer;
 
+pub use board::Gate;
+pub use board::GateBoard;
+pub use board::GateBoardMachine;
+pub use board::GateCode;
+pub use board::MOST_GATES;
+pub use board::Moment;
 pub use gate_order::GateOrder;
 pub use gate_order::GateOrderOperation;
 pub use gate_order::GateOrderWord;
