@@ -2,10 +2,11 @@
 use Prim.Native.Nat.{ℕ, zero, suc, _<_, _≤_}
 use Rattle.std.proofs.shelf.Lists.{getD-take, length-take, length-take-le}
 use Rattle.std.proofs.shelf.Maps.{nth-getD, nth-past}
+use Rattle.std.specs.Options.{mapped}
 use Rattle.std.specs.declared.option.Option.the-variants.{Some, None}
 use Rattle.std.specs.shelf.Maps.{nth}
 use lib.ListN.{getD, length, set, take}
-use mathlib.Core.List.{List, [], _∷_}
+use mathlib.Core.List.{List, [], _∷_, map}
 use mathlib.Core.Path.{_≡_, refl, ap, _∙_}
 use native.Mathlib.Omega.{arith}
 
@@ -22,3 +23,8 @@ take-set-front zero xs i x = refl
 take-set-front (suc n) [] i x = refl
 take-set-front (suc n) (y ∷ xs) zero x = refl
 take-set-front (suc n) (y ∷ xs) (suc i) x = ap (λ l. y ∷ l) (take-set-front n xs i x)
+
+pub nth-map : {X Y : Type 0} (f : X → Y) (xs : List X) (i : ℕ) → nth (map f xs) i ≡ mapped f (nth xs i)
+nth-map f [] i = refl
+nth-map f (x ∷ xs) zero = refl
+nth-map f (x ∷ xs) (suc i) = nth-map f xs i

@@ -2,3 +2,4 @@ pub mod Layout
 pub mod GateOrders
 pub mod Transfers
 pub mod Boards
+pub mod Ledgers

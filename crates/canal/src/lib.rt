@@ -2,6 +2,7 @@
 mod board;
 mod gate_order;
 mod layout;
+mod ledger;
 mod transfer;
 
 pub use board::Gate;
@@ -13,6 +14,10 @@ pub use board::Moment;
 pub use gate_order::GateOrder;
 pub use gate_order::GateOrderOperation;
 pub use gate_order::GateOrderWord;
+pub use ledger::MOST_POUNDS;
+pub use ledger::Pound;
+pub use ledger::PoundCode;
+pub use ledger::PoundLedger;
 pub use transfer::Transfer;
 pub use transfer::TransferOperation;
 pub use transfer::TransferWord;
