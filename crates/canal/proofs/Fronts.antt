@@ -28,3 +28,8 @@ pub nth-map : {X Y : Type 0} (f : X → Y) (xs : List X) (i : ℕ) → nth (map 
 nth-map f [] i = refl
 nth-map f (x ∷ xs) zero = refl
 nth-map f (x ∷ xs) (suc i) = nth-map f xs i
+
+pub nth-some : {X : Type 0} (xs : List X) (i : ℕ) (x d : X) → nth xs i ≡ Some x → (i < length xs) × (getD xs i d ≡ x)
+nth-some [] i x d e = absurd (grind arith)
+nth-some (y ∷ xs) zero x d e = (omega arith, cc)
+nth-some (y ∷ xs) (suc i) x d e = let r = nth-some xs i x d e in (omega arith, r .1)

@@ -1,3 +1,4 @@
 pub mod Fronts
 pub mod Moving
 pub mod Packing
+pub mod Water

@@ -1,5 +1,6 @@
 use Prim.Native.Nat.{ℕ, _+_, _-_}
 use Rattle.canal.specs.Transfers.{Move}
+use Rattle.canal.specs.declared.ledger.Booking.{Booking}
 use Rattle.canal.specs.declared.ledger.Pound.{Pound}
 use Rattle.canal.specs.declared.ledger.PoundCode.{PoundCode}
 use Rattle.canal.specs.declared.ledger.PoundCode.the-variants.{Moved, NotFitted, SamePound, TooLittle, TooMuch}
@@ -9,12 +10,15 @@ use Rattle.model.specs.declared.fault.Fault.{Fault}
 use Rattle.model.specs.declared.fault.Reason.the-variants.{OutOfRange}
 use Rattle.std.specs.declared.option.Option.{Option}
 use Rattle.std.specs.declared.option.Option.the-variants.{Some, None}
+use Rattle.std.specs.declared.result.Result.{Result}
+use Rattle.std.specs.declared.result.Result.the-variants.{Ok, Err}
 use Rattle.std.specs.shelf.Lists.{sumBy}
 use Rattle.std.specs.shelf.Maps.{nth}
 use lib.Dec.{eqb, ltb}
 use lib.ListN.{getD, set, take}
 use mathlib.Core.Bool.{Bool, cond, _||_}
 use mathlib.Core.List.{List, map}
+use mathlib.Core.Path.{_≡_}
 
 -- A pound: the water that it holds, and the most that it can hold, in cubic metres.
 pub record Level : Type 0 where
@@ -55,15 +59,15 @@ verdict ps m = judged (nth ps (m .source)) (nth ps (m .target)) m
 abbrev pub at : List Level → ℕ → Level
 at ps i = getD ps i (level 0 0)
 
-abbrev pub taken : ℕ → ℕ → List Level → List Level
-taken i v ps = set ps i (level (at ps i .volume - v) (at ps i .capacity))
+abbrev pub lowered : Level → ℕ → Level
+lowered p v = level (p .volume - v) (p .capacity)
 
-abbrev pub given : ℕ → ℕ → List Level → List Level
-given i v ps = set ps i (level (at ps i .volume + v) (at ps i .capacity))
+abbrev pub raised : Level → ℕ → Level
+raised p v = level (p .volume + v) (p .capacity)
 
 -- All codes but Moved leave the ledger as it was.
 abbrev pub answered : PoundCode → List Level → Move → List Level
-answered Moved ps m = given (m .target) (m .volume) (taken (m .source) (m .volume) ps)
+answered Moved ps m = set (set ps (m .source) (lowered (at ps (m .source)) (m .volume))) (m .target) (raised (at ps (m .target)) (m .volume))
 answered NotFitted ps m = ps
 answered SamePound ps m = ps
 answered TooLittle ps m = ps
@@ -72,6 +76,11 @@ answered TooMuch ps m = ps
 -- What the ledger is after a transfer.
 abbrev pub movedBy : List Level → Move → List Level
 movedBy ps m = answered (verdict ps m) ps m
+
+-- What is settled before anything is written: the source and the target as they will be, or why nothing moves.
+abbrev pub Booked : List Level → Move → Result Booking PoundCode → Type 0
+Booked ps m (Ok b) = (verdict ps m ≡ Moved) × (levelOf (b .source) ≡ lowered (at ps (m .source)) (m .volume)) × (levelOf (b .target) ≡ raised (at ps (m .target)) (m .volume))
+Booked ps m (Err code) = (verdict ps m ≡ code) × (answered code ps m ≡ ps)
 
 -- All the water.
 abbrev pub total : List Level → ℕ

@@ -1,6 +1,8 @@
 ghost use Prim.Native.Nat.{_≤_};
 
-mod booking;
+mod moving;
+
+pub use moving::PoundLedgerMachine;
 
 // A pound: the water that it holds, and the most that it can hold, in cubic metres.
 #[derive(Clone, Copy)]
@@ -23,6 +25,13 @@ pub enum PoundCode {
     TooLittle = 3,
     // The target would pass its capacity.
     TooMuch = 4,
+}
+
+// The two pounds of a transfer as they are after it.
+#[derive(Clone, Copy)]
+struct Booking {
+    source: Pound,
+    target: Pound,
 }
 
 pub const MOST_POUNDS: usize = 32;

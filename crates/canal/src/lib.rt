@@ -18,6 +18,7 @@ pub use ledger::MOST_POUNDS;
 pub use ledger::Pound;
 pub use ledger::PoundCode;
 pub use ledger::PoundLedger;
+pub use ledger::PoundLedgerMachine;
 pub use transfer::Transfer;
 pub use transfer::TransferOperation;
 pub use transfer::TransferWord;
