@@ -3,3 +3,4 @@ pub mod GateOrders
 pub mod Transfers
 pub mod Boards
 pub mod Ledgers
+pub mod Calendar

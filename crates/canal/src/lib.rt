@@ -1,5 +1,6 @@
 // Gate orders and water transfers, the machines that take them, and the calendar.
 mod board;
+mod calendar;
 mod gate_order;
 mod layout;
 mod ledger;
@@ -11,6 +12,7 @@ pub use board::GateBoardMachine;
 pub use board::GateCode;
 pub use board::MOST_GATES;
 pub use board::Moment;
+pub use calendar::Date;
 pub use gate_order::GateOrder;
 pub use gate_order::GateOrderOperation;
 pub use gate_order::GateOrderWord;
