@@ -1,4 +1,4 @@
-use Prim.Native.Nat.{ℕ, _+_, _-_, _*_, _/_, _%_, _^_}
+use Prim.Native.Nat.{ℕ, _+_, _-_, _*_, _/_, _%_, _^_, _<_}
 use Rattle.canal.specs.declared.layout.Field.{Field}
 use Rattle.model.specs.Faults.{fault}
 use Rattle.model.specs.declared.fault.Fault.{Fault}
@@ -52,3 +52,17 @@ joined before (f ∷ fs) (v ∷ vs) = joined (before * 2 ^ f .width + v) fs vs
 abbrev pub Made : {X V : Type 0} → (X → V) → Option Fault → V → Result X Fault → Type 0
 Made means wrong v (Ok x) = (wrong ≡ None) × (means x ≡ v)
 Made means wrong v (Err e) = wrong ≡ Some e
+
+-- The bits are accepted, and say this.
+abbrev pub Reads : {V : Type 0} → (ℕ → Option Fault) → (ℕ → V) → ℕ → V → Type 0
+Reads refusal read bits v = (refusal bits ≡ None) × (read bits ≡ v)
+
+-- No other bits of 64 say this.
+abbrev pub Sole : {V : Type 0} → (ℕ → Option Fault) → (ℕ → V) → ℕ → V → Type 0
+Sole refusal read bits v = (b : ℕ) → b < 2 ^ 64 → Reads refusal read b v → b ≡ bits
+
+-- What the bits say, that no others say it, and that they are no operation of the other type.
+pub record Unique {V : Type 0} (refusal other : ℕ → Option Fault) (read : ℕ → V) (bits : ℕ) (v : V) : Type 0 where
+  pub reads : Reads refusal read bits v
+  pub sole : Sole refusal read bits v
+  pub apart : other bits ≡ Some (fault OtherTag 0)

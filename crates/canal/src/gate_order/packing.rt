@@ -1,5 +1,8 @@
-ghost use Rattle.canal.specs.GateOrders.{Order, order, packed, refusal, said, wrong};
-ghost use Rattle.canal.specs.Layout.{Made};
+ghost use Rattle.canal.specs.GateOrders.{Order, order, packed, read, refusal, said, wrong};
+ghost use Rattle.canal.specs.Transfers.{refusal as others};
+ghost use Rattle.model.specs.Words.{Unpacked};
+ghost use Rattle.std.specs.Vec.{made};
+ghost use Rattle.canal.specs.Layout.{Made, Unique};
 ghost use mathlib.Core.Path.{_≡_};
 use crate::gate_order::GateOrder;
 use crate::layout::Field;
@@ -83,7 +86,11 @@ pub impl Operation for GateOrder as GateOrderOperation {
 
     ghost refused = { refusal };
 
-    fn pack(&self) -> u64 {
+    // Unpacking what is packed gives an equal operation, and no other bits do.
+    fn pack(&self) -> u64
+        ensures is { λ r. ⌜ r ≡ packed (said (now (self .entry))) ⌝ }
+        ensures unique { λ r. ⌜ Unique refusal others read r (said (now (self .entry))) ⌝ }
+    {
         let bits = GATE.after(1, self.gate as u32);
         let bits = OPENING.after(bits, self.opening as u32);
         let bits = DAY.after(bits, self.day as u32);
@@ -91,16 +98,20 @@ pub impl Operation for GateOrder as GateOrderOperation {
         NUMBER.after(bits, self.number)
     }
 
-    fn unpack(packed: u64) -> Result<GateOrder, Fault> {
-        if TAG.of(packed) != 1 {
+    // Packing what is unpacked gives the same bits, and what other bits give is not equal.
+    fn unpack(bits: u64) -> Result<GateOrder, Fault>
+        ensures is { λ r. ⌜ Unpacked (λ u. packed (said u)) refusal bits r ⌝ }
+        ensures unique { λ r. ⌜ made r (λ u. Unique refusal others read bits (said u)) ⌝ }
+    {
+        if TAG.of(bits) != 1 {
             return Err(Fault::new(Reason::OtherTag, TAG.at));
         }
         GateOrder::new(
-            GATE.of(packed),
-            OPENING.of(packed),
-            DAY.of(packed),
-            MINUTE.of(packed),
-            NUMBER.of(packed),
+            GATE.of(bits),
+            OPENING.of(bits),
+            DAY.of(bits),
+            MINUTE.of(bits),
+            NUMBER.of(bits),
         )
     }
 }

@@ -1,5 +1,8 @@
-ghost use Rattle.canal.specs.Layout.{Made, bad};
-ghost use Rattle.canal.specs.Transfers.{Move, fields, move, packed, refusal, said, wrong};
+ghost use Rattle.canal.specs.GateOrders.{refusal as others};
+ghost use Rattle.model.specs.Words.{Unpacked};
+ghost use Rattle.std.specs.Vec.{made};
+ghost use Rattle.canal.specs.Layout.{Made, Unique, bad};
+ghost use Rattle.canal.specs.Transfers.{Move, fields, move, packed, read, refusal, said, wrong};
 ghost use mathlib.Core.List.{[], _∷_};
 ghost use mathlib.Core.Path.{_≡_};
 use crate::layout::Field;
@@ -89,7 +92,11 @@ pub impl Operation for Transfer as TransferOperation {
 
     ghost refused = { refusal };
 
-    fn pack(&self) -> u64 {
+    // Unpacking what is packed gives an equal operation, and no other bits do.
+    fn pack(&self) -> u64
+        ensures is { λ r. ⌜ r ≡ packed (said (now (self .entry))) ⌝ }
+        ensures unique { λ r. ⌜ Unique refusal others read r (said (now (self .entry))) ⌝ }
+    {
         let bits = SOURCE.after(2, self.source as u32);
         let bits = TARGET.after(bits, self.target as u32);
         let bits = VOLUME.after(bits, self.volume);
@@ -97,16 +104,20 @@ pub impl Operation for Transfer as TransferOperation {
         NUMBER.after(bits, self.number)
     }
 
-    fn unpack(packed: u64) -> Result<Transfer, Fault> {
-        if TAG.of(packed) != 2 {
+    // Packing what is unpacked gives the same bits, and what other bits give is not equal.
+    fn unpack(bits: u64) -> Result<Transfer, Fault>
+        ensures is { λ r. ⌜ Unpacked (λ u. packed (said u)) refusal bits r ⌝ }
+        ensures unique { λ r. ⌜ made r (λ u. Unique refusal others read bits (said u)) ⌝ }
+    {
+        if TAG.of(bits) != 2 {
             return Err(Fault::new(Reason::OtherTag, TAG.at));
         }
         checked(
-            SOURCE.of(packed),
-            TARGET.of(packed),
-            VOLUME.of(packed),
-            ZEROS.of(packed),
-            NUMBER.of(packed),
+            SOURCE.of(bits),
+            TARGET.of(bits),
+            VOLUME.of(bits),
+            ZEROS.of(bits),
+            NUMBER.of(bits),
         )
     }
 }
