@@ -6,7 +6,7 @@ use Rattle.std.specs.declared.option.Option.the-variants.{Some, None}
 use Rattle.std.specs.shelf.Lists.{leading}
 use lib.Dec.{eqb, leb, ltb}
 use lib.ListN.{drop, getD, take}
-use mathlib.Core.Bool.{Bool, true, false, cond, _&&_, _||_}
+use mathlib.Core.Bool.{Bool, true, false, cond, not, _&&_, _||_}
 use mathlib.Core.List.{List, [], _∷_}
 
 -- The bytes of the digits 0 to 9.
@@ -48,3 +48,14 @@ fields (suc k) first text = more (fieldAt first text) (fields k false)
 -- The k numbers of a line that holds just them.
 abbrev pub numbersOf : ℕ → List ℕ → Option (List ℕ)
 numbersOf k text = fields k true text
+
+-- How far the first line goes: to the first newline, or to the end.
+abbrev pub lineLength : List ℕ → ℕ
+lineLength text = leading (λ b. not (eqb b 10)) text
+
+abbrev pub firstLine : List ℕ → List ℕ
+firstLine text = take (lineLength text) text
+
+-- What follows the newline.
+abbrev pub otherLines : List ℕ → List ℕ
+otherLines text = drop (lineLength text + 1) text

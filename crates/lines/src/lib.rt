@@ -1,6 +1,6 @@
 // Lines of decimal numbers.
 ghost use Prim.Native.Nat.{ℕ, _<_, _≤_};
-ghost use Rattle.lines.specs.Numbers.{decimal, digit, fieldAt, numberAt, numbersOf};
+ghost use Rattle.lines.specs.Numbers.{decimal, digit, fieldAt, firstLine, numberAt, numbersOf, otherLines};
 ghost use Rattle.std.specs.Options.{mapped};
 ghost use Rattle.std.specs.shelf.Lists.{leading};
 ghost use lib.ListN.{getD, length};
@@ -76,4 +76,18 @@ pub fn numbers<const K: usize>(text: &[u8]) -> Option<[u32; K]>
         rest = more;
     }
     if rest.is_empty() { Some(values) } else { None }
+}
+
+// The text up to its first newline, and what follows that newline.
+pub fn split_line(text: &[u8]) -> (&[u8], &[u8])
+    ensures line { λ r. ⌜ now (r .0) ≡ firstLine (now (text .entry)) ⌝ }
+    ensures rest { λ r. ⌜ now (r .1) ≡ otherLines (now (text .entry)) ⌝ }
+    ensures shorter { λ r. ⌜ (0 < length (now (text .entry)) → length (now (r .1)) < length (now (text .entry))) ⌝ }
+{
+    for (i, b) in text.iter().enumerate() {
+        if *b == b'\n' {
+            return (&text[0..i], &text[i + 1..]);
+        }
+    }
+    (text, &text[text.len()..])
 }
