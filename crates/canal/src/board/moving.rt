@@ -1,5 +1,6 @@
 ghost use Prim.Native.Nat.{ℕ};
 ghost use Rattle.canal.specs.Boards.{Board, earlier, means, moment, movedBy, newBoard, numberOf, unfit, verdict};
+ghost use Rattle.canal.specs.Calendar.{dateOf};
 ghost use Rattle.canal.specs.GateOrders.{read, said};
 ghost use Rattle.canal.specs.Layout.{Made};
 ghost use Rattle.std.specs.shelf.Maps.{nth};
@@ -10,6 +11,7 @@ use crate::board::GateCode;
 use crate::board::GateCodePartialEq;
 use crate::board::MOST_GATES;
 use crate::board::Moment;
+use crate::calendar::Date;
 use crate::gate_order::GateOrder;
 use crate::gate_order::GateOrderOperation;
 use crate::gate_order::GateOrderWord;
@@ -64,6 +66,13 @@ impl GateBoard {
         } else {
             None
         }
+    }
+
+    // The date of a day of the board's year.
+    pub fn date(&self, day: u16) -> Option<Date>
+        ensures { λ r. ⌜ r ≡ dateOf (means (now (self .entry)) .leap) day ⌝ }
+    {
+        Date::of(self.leap, day as u32)
     }
 
     // What the board answers to the order.

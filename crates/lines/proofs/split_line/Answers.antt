@@ -20,10 +20,10 @@ returns-then-b-eq10 c =
     let no = leading-drop-no inside text i 0 (c .loop-i-test .taken) (ap not (eq-eqb _ 10 (c .if-b-eq10 .taken))) in
     let there : i ≡ lineLength text = omega (arith, c .loop-i .inv) in
     let whole : i - 0 ≡ i = omega arith in
-    record
-    { line = ap (λ k. take k text) (whole ∙ there)
-    ; rest = take-rest text (i + 1) ∙ ap (λ k. drop (k + 1) text) there
-    ; shorter = λ h. simp (length-take, length-drop) (omega arith)
+    record {
+      line = ap (λ k. take k text) (whole ∙ there);
+      rest = take-rest text (i + 1) ∙ ap (λ k. drop (k + 1) text) there;
+      shorter = λ h. simp (length-take, length-drop) (omega arith);
     }
 
 pub loop-i-again : need.loop-i-again
@@ -36,8 +36,8 @@ returns c =
     let text = c .args .text .now in
     let all = leading-drop-all inside text (c .loop-i .i) (c .loop-i-test .left) in
     let there : lineLength text ≡ length text = omega (arith, c .loop-i .inv) in
-    record
-    { line = sym (ap (λ k. take k text) there ∙ take-all (length text) text (omega arith))
-    ; rest = take-rest text (length text) ∙ drop-all (length text) text (omega arith) ∙ sym (drop-all (lineLength text + 1) text (omega arith))
-    ; shorter = λ h. simp (length-take, length-drop) (omega arith)
+    record {
+      line = sym (ap (λ k. take k text) there ∙ take-all (length text) text (omega arith));
+      rest = take-rest text (length text) ∙ drop-all (length text) text (omega arith) ∙ sym (drop-all (lineLength text + 1) text (omega arith));
+      shorter = λ h. simp (length-take, length-drop) (omega arith);
     }

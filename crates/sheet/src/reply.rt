@@ -1,0 +1,36 @@
+use canal::Date;
+use canal::GateBoard;
+use canal::GateCode;
+use model::Fault;
+
+// An order that was made, and what the board did.
+#[derive(Clone, Copy)]
+pub struct Entry {
+    pub gate: u8,
+    pub opening: u16,
+    pub minute: u16,
+    pub bits: u64,
+    pub date: Option<Date>,
+    pub code: GateCode,
+}
+
+// What a line of a sheet is answered with.
+#[derive(Clone, Copy)]
+pub enum Reply {
+    // The line gave the board.
+    Board { gates: u32, leap: bool },
+    // The line's order was put to the board.
+    Done(Entry),
+    // The line's numbers make no board or no order.
+    Refused(Fault),
+    // The line does not hold the two numbers of a board.
+    NoBoard,
+    // The line does not hold the five numbers of an order.
+    NoOrder,
+}
+
+// The board of a sheet, once a line has given it.
+#[derive(Clone, Copy)]
+pub struct Sheet {
+    pub(crate) board: Option<GateBoard>,
+}
