@@ -2,6 +2,8 @@ use Prim.Native.Nat.{ℕ}
 use Rattle.canal.specs.Boards.{Board, means, movedBy, newBoard, unfit, verdict}
 use Rattle.canal.specs.Calendar.{dateOf}
 use Rattle.canal.specs.GateOrders.{Order, order, packed, wrong}
+use Rattle.canal.specs.declared.board.Gate.{Gate}
+use Rattle.canal.specs.declared.board.Moment.{Moment}
 use Rattle.lines.specs.Numbers.{numbersOf}
 use Rattle.model.specs.Faults.{fault}
 use Rattle.model.specs.declared.fault.Fault.{Fault}
@@ -10,9 +12,11 @@ use Rattle.sheet.specs.declared.reply.Entry.{Entry}
 use Rattle.sheet.specs.declared.reply.Reply.{Reply}
 use Rattle.sheet.specs.declared.reply.Reply.the-variants as reply
 use Rattle.sheet.specs.declared.reply.Sheet.{Sheet}
+use Rattle.sheet.specs.declared.reply.Standing.{Standing}
 use Rattle.std.specs.Options.{mapped}
 use Rattle.std.specs.declared.option.Option.{Option}
 use Rattle.std.specs.declared.option.Option.the-variants.{Some, None}
+use Rattle.std.specs.shelf.Maps.{nth}
 use lib.Dec.{eqb, ltb}
 use lib.ListN.{getD}
 use mathlib.Core.Bool.{Bool, cond}
@@ -29,16 +33,17 @@ outcome r b = record { reply = r; board = b }
 abbrev pub boardOf : Sheet → Option Board
 boardOf s = mapped means (s .board)
 
--- A board of so many gates, unless there is none.
-abbrev pub fitted : ℕ → Bool → Option Fault → Outcome
-fitted gates leap None = outcome (reply.Board gates leap) (Some (newBoard gates leap))
-fitted gates leap (Some e) = outcome (reply.Refused e) None
+-- Why the numbers are no board's, if they are none: its gates, and 1 for a leap year or 0 for a common year.
+abbrev pub unfitted : ℕ → ℕ → Option Fault
+unfitted gates mark = cond (ltb 1 mark) (Some (fault OutOfRange 0)) (unfit gates)
 
--- The numbers of a board are its gates, and 1 for a leap year or 0 for a common year.
-abbrev pub onBoard : Option (List ℕ) → Outcome
-onBoard None = outcome reply.NoBoard None
-onBoard (Some ns) =
-    cond (ltb 1 (getD ns 1 0)) (outcome (reply.Refused (fault OutOfRange 0)) None) (fitted (getD ns 0 0) (eqb (getD ns 1 0) 1) (unfit (getD ns 0 0)))
+-- A new board, unless the numbers are none's.
+abbrev pub fitted : Option Board → ℕ → ℕ → Option Fault → Outcome
+fitted before gates mark None = outcome (reply.Board gates (eqb mark 1)) (Some (newBoard gates (eqb mark 1)))
+fitted before gates mark (Some e) = outcome (reply.Refused e) before
+
+abbrev pub onBoard : Option Board → List ℕ → Outcome
+onBoard before ns = fitted before (getD ns 0 0) (getD ns 1 0) (unfitted (getD ns 0 0) (getD ns 1 0))
 
 -- What is said of an order that is put to a board.
 abbrev pub entry : Board → Order → Entry
@@ -58,7 +63,30 @@ abbrev pub onOrder : Board → Option (List ℕ) → Outcome
 onOrder b None = outcome reply.NoOrder (Some b)
 onOrder b (Some ns) = put b (orderOf ns) (wrong (orderOf ns))
 
--- What a line does: until there is a board, the line should give it.
+-- A line that gives no board needs one.
+abbrev pub onOther : Option Board → List ℕ → Outcome
+onOther None text = outcome reply.NoBoard None
+onOther (Some b) text = onOrder b (numbersOf 5 text)
+
+abbrev pub onNumbers : Option Board → List ℕ → Option (List ℕ) → Outcome
+onNumbers before text None = onOther before text
+onNumbers before text (Some ns) = onBoard before ns
+
+-- What a line does: two numbers give a new board, and five an order for the board that there is.
 abbrev pub onLine : Option Board → List ℕ → Outcome
-onLine None text = onBoard (numbersOf 2 text)
-onLine (Some b) text = onOrder b (numbersOf 5 text)
+onLine before text = onNumbers before text (numbersOf 2 text)
+
+-- A gate that has moved and is not closed, with the moment of its last moved order.
+abbrev pub openSince : Bool → ℕ → ℕ → Option Moment → Option Standing
+openSince leap number opening None = None
+openSince leap number opening (Some m) =
+    cond (eqb opening 0) None (Some (record { gate = number; opening = opening; date = dateOf leap (m .day); minute = m .minute }))
+
+abbrev pub gateOpen : Bool → ℕ → Option Gate → Option Standing
+gateOpen leap number None = None
+gateOpen leap number (Some gate) = openSince leap number (gate .opening) (gate .last)
+
+-- The gate of this number, if it is fitted and stands open.
+abbrev pub standsOpen : Option Board → ℕ → Option Standing
+standsOpen None number = None
+standsOpen (Some b) number = gateOpen (b .leap) number (nth (b .gates) number)

@@ -1,14 +1,17 @@
-ghost use Rattle.canal.specs.Boards.{means, movedBy};
+ghost use Rattle.canal.specs.Boards.{means, movedBy, newBoard};
 ghost use Rattle.canal.specs.GateOrders.{said};
+ghost use Rattle.canal.specs.Layout.{Made};
 ghost use Rattle.lines.specs.Numbers.{numbersOf};
-ghost use Rattle.sheet.specs.Sheets.{boardOf, entry, onBoard, onLine, onOrder, outcome};
+ghost use Rattle.sheet.specs.Sheets.{boardOf, entry, onLine, onOrder, outcome, standsOpen, unfitted};
 ghost use Rattle.std.specs.Options.{mapped};
 ghost use Rattle.std.specs.declared.option.Option.the-variants.{None, Some};
 ghost use Rattle.std.specs.shelf.Maps.{nth};
+ghost use lib.Dec.{eqb};
 ghost use mathlib.Core.Path.{_≡_};
 use crate::reply::Entry;
 use crate::reply::Reply;
 use crate::reply::Sheet;
+use crate::reply::Standing;
 use canal::Date;
 use canal::GateBoard;
 use canal::GateOrder;
@@ -18,22 +21,14 @@ use model::Fault;
 use model::Operation;
 use model::Reason;
 
-// What the line is answered with where it should give the board, and the board that it gives.
-fn fit(text: &[u8]) -> (Reply, Option<GateBoard>)
-    ensures { λ r. ⌜ outcome (r .0) (mapped means (r .1)) ≡ onBoard (numbersOf 2 (now (text .entry))) ⌝ }
+// The board of these numbers, or why there is none.
+fn fit(gates: u32, mark: u32) -> Result<GateBoard, Fault>
+    ensures { λ r. ⌜ Made means (unfitted gates mark) (newBoard gates (eqb mark 1)) r ⌝ }
 {
-    let Some(ns) = lines::numbers::<2>(text) else {
-        return (Reply::NoBoard, None);
-    };
-    let [gates, mark] = ns;
     if mark > 1 {
-        return (Reply::Refused(Fault::new(Reason::OutOfRange, 0)), None);
+        return Err(Fault::new(Reason::OutOfRange, 0));
     }
-    let leap = mark == 1;
-    match GateBoard::new(gates, leap) {
-        Ok(board) => (Reply::Board { gates, leap }, Some(board)),
-        Err(e) => (Reply::Refused(e), None),
-    }
+    GateBoard::new(gates, mark == 1)
 }
 
 // Puts the order to the board.
@@ -79,18 +74,43 @@ impl Sheet {
     pub fn line(&mut self, text: &[u8]) -> Reply
         ensures { λ r. ⌜ outcome r (boardOf (now (self .exit))) ≡ onLine (boardOf (now (self .entry))) (now (text .entry)) ⌝ }
     {
-        match self.board {
-            None => {
-                let (reply, board) = fit(text);
-                self.board = board;
-                reply
-            }
-            Some(before) => {
-                let mut board = before;
-                let reply = enter(&mut board, text);
-                self.board = Some(board);
-                reply
-            }
+        if let Some(ns) = lines::numbers::<2>(text) {
+            let [gates, mark] = ns;
+            return match fit(gates, mark) {
+                Ok(board) => {
+                    self.board = Some(board);
+                    Reply::Board {
+                        gates,
+                        leap: mark == 1,
+                    }
+                }
+                Err(e) => Reply::Refused(e),
+            };
         }
+        let Some(before) = self.board else {
+            return Reply::NoBoard;
+        };
+        let mut board = before;
+        let reply = enter(&mut board, text);
+        self.board = Some(board);
+        reply
+    }
+
+    // The gate of this number, if it stands open.
+    pub fn standing(&self, number: u8) -> Option<Standing>
+        ensures { λ r. ⌜ r ≡ standsOpen (boardOf (now (self .entry))) number ⌝ }
+    {
+        let board = self.board?;
+        let gate = board.gate(number)?;
+        let last = gate.last?;
+        if gate.opening == 0 {
+            return None;
+        }
+        Some(Standing {
+            gate: number,
+            opening: gate.opening,
+            date: board.date(last.day),
+            minute: last.minute,
+        })
     }
 }
