@@ -4,8 +4,12 @@ mod fault;
 mod traits;
 
 pub use fault::Fault;
+pub use fault::FaultDebug;
+pub use fault::FaultPartialEq;
 pub use fault::Layer;
+pub use fault::LayerPartialEq;
 pub use fault::Reason;
+pub use fault::ReasonPartialEq;
 pub use traits::Machine;
 pub use traits::Operation;
 pub use traits::Word;
