@@ -1,18 +1,18 @@
-use canal::Date;
-use canal::GateBoard;
-use canal::GateBoardMachine;
+use calendar::Date;
 use canal::GateOrder;
 use canal::GateOrderOperation;
 use canal::GateOrderWord;
-use canal::MOST_POUNDS;
-use canal::Pound;
-use canal::PoundLedger;
-use canal::PoundLedgerMachine;
 use canal::Transfer;
 use canal::TransferOperation;
 use canal::TransferWord;
+use gates::GateBoard;
+use gates::GateBoardMachine;
 use model::FaultDebug;
 use model::Machine;
+use pounds::MOST_POUNDS;
+use pounds::Pound;
+use pounds::PoundLedger;
+use pounds::PoundLedgerMachine;
 use std::test::*;
 
 // Orders, one after the other, for a board of twelve gates, with the codes of a leap year and of a common year.

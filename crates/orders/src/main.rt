@@ -1,5 +1,5 @@
 // Reads a sheet of gate orders from standard input, and prints what became of each line and which gates then stand open.
-use canal::MOST_GATES;
+use gates::MOST_GATES;
 use lines::split_line;
 use sheet::ReplyDisplay;
 use sheet::Sheet;

@@ -1,9 +1,9 @@
 use Prim.Native.Nat.{ℕ}
-use Rattle.canal.specs.Boards.{Board, means, movedBy, newBoard, unfit, verdict}
-use Rattle.canal.specs.Calendar.{dateOf}
+use Rattle.gates.specs.Boards.{Board, means, movedBy, newBoard, unfit, verdict}
+use Rattle.calendar.specs.Calendar.{dateOf}
 use Rattle.canal.specs.GateOrders.{Order, order, packed, wrong}
-use Rattle.canal.specs.declared.board.Gate.{Gate}
-use Rattle.canal.specs.declared.board.Moment.{Moment}
+use Rattle.gates.specs.declared.board.Gate.{Gate}
+use Rattle.gates.specs.declared.board.Moment.{Moment}
 use Rattle.lines.specs.Numbers.{numbersOf}
 use Rattle.model.specs.Faults.{fault}
 use Rattle.model.specs.declared.fault.Fault.{Fault}

@@ -1,6 +1,6 @@
-use canal::Date;
-use canal::GateBoard;
-use canal::GateCode;
+use calendar::Date;
+use gates::GateBoard;
+use gates::GateCode;
 use model::Fault;
 
 // An order that was made, and what the board did.

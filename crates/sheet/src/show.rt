@@ -1,8 +1,8 @@
 use crate::reply::Entry;
 use crate::reply::Reply;
 use crate::reply::Standing;
-use canal::Date;
-use canal::GateCode;
+use calendar::Date;
+use gates::GateCode;
 use std::fmt;
 
 // A date and a time of the day, as month-day hour:minute.

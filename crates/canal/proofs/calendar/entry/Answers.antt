@@ -1,6 +1,0 @@
-use Rattle.canal.proofs.Days.{days, table-entry}
-use Rattle.canal.proofs.calendar.entry.Needs as need
-use mathlib.Core.Path.{refl}
-
-pub returns : need.returns
-returns c = table-entry days (c .args .place) (record { month = 0; day = 0 }) refl (c .pre)
