@@ -1,1 +1,4 @@
+pub mod Bodies
+pub mod Headers
 pub mod Judging
+pub mod Whole

@@ -1,10 +1,12 @@
 ghost use Prim.Native.Nat.{ℕ, _+_, _-_, _*_, _<_, _≤_, min};
 ghost use Rattle.frames.specs.Kinds.{headFault};
 ghost use Rattle.frames.specs.Meaning.{bodyFault, fillingFault, meaning, orElse, partFault, saidIn, shifted};
-ghost use Rattle.frames.specs.Views.{Borrows, answered, headerOf, kindIs, saidOf};
+ghost use Rattle.frames.specs.Views.{Alone, Borrows, Sound, answered, headerOf, kindIs, saidOf};
+ghost use Rattle.frames.specs.Writing.{frame as frameOf, unfit};
 ghost use Rattle.frames.specs.declared.kind.Kind.the-variants.{Ack};
 ghost use Rattle.std.specs.Vec.{made};
 ghost use Rattle.std.specs.declared.result.Result.the-variants.{Ok, Err};
+ghost use Rattle.std.specs.declared.option.Option.the-variants.{None};
 ghost use lib.ListN.{drop};
 ghost use mathlib.Core.Path.{_≡_};
 use crate::heads::head_fault;
@@ -120,6 +122,9 @@ fn frame(kind: Kind, header: Header, body: &[u8]) -> Frame<'_>
 pub fn read<O: Operation + Drop>(bytes: &[u8]) -> Result<Frame<'_>, Fault>
     ensures means { λ r. ⌜ answered r ≡ meaning (O·Operation .refused) (now (bytes .entry)) ⌝ }
     ensures parts { λ r. ⌜ made r (λ x. Borrows (drop 2 (now (bytes .entry))) x) ⌝ }
+    ensures sound { λ r. ⌜ made r Sound ⌝ }
+    ensures written { λ r. ⌜ made r (λ x. (unfit (saidOf x) ≡ None) × (frameOf (saidOf x) ≡ now (bytes .entry))) ⌝ }
+    ensures alone { λ r. ⌜ made r (λ x. Alone (now (bytes .entry)) (saidOf x)) ⌝ }
 {
     let [first, second, body @ ..] = bytes else {
         return Err(Fault::new(Reason::ShortFrame, 0));
