@@ -7,7 +7,7 @@ use Rattle.std.proofs.shelf.Lists.{getD-drop, getD-past}
 use lib.ListN.{length, getD, drop}
 use mathlib.Core.List.{List, [], _∷_}
 use mathlib.Core.Path.{_≡_, refl, sym, ap, _∙_}
-use native.Mathlib.Nat.{zero-div, zero-mod}
+use native.Mathlib.Nat.{div-one, zero-div, zero-mod}
 use native.Mathlib.Omega.{arith}
 
 -- 64 bits in eight bytes and back.
@@ -75,3 +75,27 @@ entries-back body n bytes long zeros =
     let b = bit-of-field 8 body (6 * n) w (i - 6 * n) (omega arith) in
     let at : 6 * n + (i - 6 * n) ≡ i = omega arith in
     ap (bit 8 body) (sym at) ∙ sym b ∙ rw (zeros, zero-div))
+
+-- Byte k of 64 bits.
+byte-of-word : (u k : ℕ) → k < 8 → fieldOf 64 (u ∷ []) (8 * k) 8 ≡ u / 2 ^ (56 - 8 * k) % 256
+byte-of-word u k h =
+    field-is 64 (u ∷ []) (8 * k) 8 u (56 - 8 * k) (λ j l.
+    let q : (8 * k + j) / 64 ≡ 0 = omega arith in
+    let r : (8 * k + j) % 64 ≡ 8 * k + j = omega arith in
+    let z : 64 - 1 - (8 * k + j) ≡ 56 - 8 * k + (8 - 1 - j) = omega arith in
+    rw (q, r, z))
+
+pub word-bytes : (u : ℕ)
+    → (u / 72057594037927936 % 256) ∷ (u / 281474976710656 % 256) ∷ (u / 1099511627776 % 256) ∷ (u / 4294967296 % 256) ∷ (u / 16777216 % 256) ∷ (u / 65536 % 256) ∷ (u / 256 % 256) ∷ (u % 256) ∷ []
+    ≡ wordBytes u
+word-bytes u =
+    let a = byte-of-word u 0 (omega arith) in
+    let b = byte-of-word u 1 (omega arith) in
+    let c = byte-of-word u 2 (omega arith) in
+    let d = byte-of-word u 3 (omega arith) in
+    let e = byte-of-word u 4 (omega arith) in
+    let f = byte-of-word u 5 (omega arith) in
+    let g = byte-of-word u 6 (omega arith) in
+    let h = byte-of-word u 7 (omega arith) in
+    let one = div-one u in
+    cc

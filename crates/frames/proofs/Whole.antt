@@ -5,7 +5,7 @@ use Rattle.frames.proofs.Judging.{answer-none, meaning-split, none-or, or-none
 use Rattle.frames.specs.Kinds.{badSequence, headFault, kindNumber, size, stations, unless}
 use Rattle.frames.specs.Meaning.{bodyFault, fillingFault, judged, meaning, orElse, partFault, saidIn, shifted}
 use Rattle.frames.specs.Said.{Said, request, ack, summary, proposal, prepare, commit}
-use Rattle.frames.specs.Views.{Accepted, Bytes, Numbered, Origin, Sound, headerOf, kindIs, saidOf}
+use Rattle.frames.specs.Views.{Accepted, Bytes, Numbered, Origin, Sound, Valued, headerOf, kindIs, saidOf}
 use Rattle.frames.specs.Writing.{bodyOf, faultsOf, frame, headBytes, headNumber, kindOf, partUnfit, senderOf, sequenceOf, unfit}
 use Rattle.frames.specs.declared.kind.Frame.{Frame}
 use Rattle.frames.specs.declared.kind.Frame.the-variants as frames
@@ -27,15 +27,6 @@ use mathlib.Core.Bool.{true, false, not}
 use mathlib.Core.List.{List, [], _∷_, _++_}
 use mathlib.Core.Path.{_≡_, refl, sym, ap, _∙_}
 use native.Mathlib.Omega.{arith}
-
--- The operation has 64 bits, each entry 6.
-abbrev pub Valued : Said → Type 0
-Valued (request s f q u) = u < 2 ^ 64
-Valued (ack s f q o u) = u < 2 ^ 64
-Valued (summary s f row) = Small row
-Valued (proposal s f q m) = Small m
-Valued (prepare s f q m) = Small m
-Valued (commit s f q m) = Small m
 
 long-from : (es : List ℕ) (n : ℕ) → unless (not (eqb (length es) n)) FrameLength 0 None ≡ None → length es ≡ n
 long-from es n e = eqb-true _ _ (not-false _ (unless-none (not (eqb (length es) n)) FrameLength 0 None e .0))

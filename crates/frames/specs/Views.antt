@@ -1,4 +1,4 @@
-use Prim.Native.Nat.{ℕ, _*_, _<_, _≤_}
+use Prim.Native.Nat.{ℕ, _*_, _^_, _<_, _≤_}
 use Rattle.frames.specs.Kinds.{stations}
 use Rattle.frames.specs.Meaning.{meaning}
 use Rattle.frames.specs.Said.{Said, request, ack, summary, proposal, prepare, commit}
@@ -10,7 +10,7 @@ use Rattle.frames.specs.declared.kind.Kind.the-variants as kind
 use Rattle.frames.specs.declared.kind.Message.{Message}
 use Rattle.frames.specs.declared.kind.Message.the-variants as message
 use Rattle.model.specs.declared.fault.Fault.{Fault}
-use Rattle.rows.specs.Bits.{entries}
+use Rattle.rows.specs.Bits.{Small, entries}
 use Rattle.rows.specs.Values.{matrixOf, rowOf}
 use Rattle.std.specs.declared.option.Option.{Option}
 use Rattle.std.specs.declared.option.Option.the-variants.{None}
@@ -114,3 +114,12 @@ Alone bytes said = (refused : ℕ → Option Fault) (other : List ℕ) → Bytes
 -- Read again, these bytes say this, for every kind of operation that accepts the one in it.
 abbrev pub Reads : List ℕ → Said → Type 0
 Reads bytes said = (refused : ℕ → Option Fault) → Accepted refused said → meaning refused bytes ≡ Ok said
+
+-- The operation has 64 bits, each entry 6.
+abbrev pub Valued : Said → Type 0
+Valued (request s f q u) = u < 2 ^ 64
+Valued (ack s f q o u) = u < 2 ^ 64
+Valued (summary s f row) = Small row
+Valued (proposal s f q m) = Small m
+Valued (prepare s f q m) = Small m
+Valued (commit s f q m) = Small m

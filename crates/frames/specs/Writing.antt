@@ -73,14 +73,18 @@ headBytes n = n / 256 ∷ n % 256 ∷ []
 abbrev pub frame : Said → List ℕ
 frame s = headBytes (headNumber (kindNumber (kindOf s)) (senderOf s) (faultsOf s) (sequenceOf s)) ++ bodyOf s
 
+-- A row or a matrix has as many entries as the kind and f give.
+abbrev pub countFault : List ℕ → ℕ → Option Fault
+countFault es n = unless (not (eqb (length es) n)) FrameLength 0 None
+
 -- What reading would refuse of a body that says this.
 abbrev pub partUnfit : Said → Option Fault
 partUnfit (request s f q u) = None
 partUnfit (ack s f q o u) = unless (leb (stations f) o) FrameOrigin 16 None
-partUnfit (summary s f row) = unless (not (eqb (length row) (stations f))) FrameLength 0 None
-partUnfit (proposal s f q m) = unless (not (eqb (length m) (stations f * stations f))) FrameLength 0 None
-partUnfit (prepare s f q m) = unless (not (eqb (length m) (stations f * stations f))) FrameLength 0 None
-partUnfit (commit s f q m) = unless (not (eqb (length m) (stations f * stations f))) FrameLength 0 None
+partUnfit (summary s f row) = countFault row (stations f)
+partUnfit (proposal s f q m) = countFault m (stations f * stations f)
+partUnfit (prepare s f q m) = countFault m (stations f * stations f)
+partUnfit (commit s f q m) = countFault m (stations f * stations f)
 
 -- Why no frame says this: what reading would refuse first.
 abbrev pub unfit : Said → Option Fault

@@ -2,9 +2,11 @@
 mod heads;
 mod kind;
 mod reading;
+mod writing;
 
 pub use kind::Frame;
 pub use kind::Header;
 pub use kind::Kind;
 pub use kind::Message;
 pub use reading::read;
+pub use writing::write;

@@ -4,7 +4,7 @@ use Rattle.rows.specs.Bits.{Small, fieldOf, repacked}
 use Rattle.rows.specs.Values.{placed, rowIn}
 use Rattle.std.proofs.shelf.Bits.{mul-le, mul-lt}
 use Rattle.std.proofs.shelf.Counted.{length-map-counting, getD-map-counting}
-use Rattle.std.proofs.shelf.Lists.{drop-all, drop-take, getD-drop, getD-past, getD-take, length-take, places, same-lists, take-all, take-take}
+use Rattle.std.proofs.shelf.Lists.{drop-all, drop-take, getD-drop, getD-past, getD-take, length-append, length-drop, length-take, places, same-lists, take-all, take-take}
 use Rattle.std.proofs.shelf.Tests.{cases-lt, cases-order}
 use borrow.Author.Needs.{needs}
 use borrow.Rule.Slice.PartMut.{putMid}
@@ -94,3 +94,7 @@ front-placed n a k xs ys h l e = same-lists _ _ (search (needs, places)) (λ k d
 
 pub small-same : (xs ys : List ℕ) → xs ≡ ys → Small ys → Small xs
 small-same xs ys e a k = rw e (a k)
+
+-- A part that is written over leaves the length.
+pub length-over : (a k : ℕ) (xs ys : List ℕ) → a + k ≤ length xs → length ys ≡ k → length (putMid a k xs ys) ≡ length xs
+length-over a k xs ys h e = simp (length-append, length-take, length-drop) (omega arith)

@@ -1,5 +1,5 @@
 use Prim.Native.Nat.{_-_, _*_, _<_, _≤_, _+_}
-use Rattle.rows.proofs.Cells.{front-placed, row-fits, small-append, small-drop, small-take, square-fits}
+use Rattle.rows.proofs.Cells.{front-placed, length-over, row-fits, small-append, small-drop, small-take, square-fits}
 use Rattle.rows.proofs.owned.Matrix.put.Needs as need
 use Rattle.std.proofs.shelf.Lists.{length-drop, length-take}
 use Rattle.std.proofs.shelf.Tests.{and-from, eq-eqb, lt-ltb}
@@ -20,7 +20,10 @@ ghost-self c =
     let front = small-take (i * s) cells (c .args .self .now .small) in
     let part = small-take (s - 0) (c .args .row .now .cells) (c .args .row .now .small) in
     let rest = small-drop (i * s + s - i * s) (drop (i * s) cells) (small-drop (i * s) cells (c .args .self .now .small)) in
-    (c .args .self .now .few, (rw (c .copy-from-slice .ensures .after) (small-append _ _ front (small-append _ _ part rest)), tt))
+    let f = row-fits i s (c .if-i-side .taken) in
+    let q = square-fits s (c .args .self .now .few) in
+    let long = length-over (i * s) (i * s + s - i * s) cells (c .copy-from-slice .last .self) (omega arith) (omega arith) ∙ c .args .self .now .whole in
+    (c .args .self .now .few, (long, (rw (c .copy-from-slice .ensures .after) (small-append _ _ front (small-append _ _ part rest)), tt)))
 
 pub returns-then-row-self : need.returns-then-row-self
 returns-then-row-self c =

@@ -1,5 +1,5 @@
 use Prim.Native.Nat.{_-_, _*_, _<_, _≤_, _+_}
-use Rattle.rows.proofs.Cells.{no-row, row-fits, row-whole, small-append, small-drop, small-take, small-zeros, square-fits}
+use Rattle.rows.proofs.Cells.{length-over, no-row, row-fits, row-whole, small-append, small-drop, small-take, small-zeros, square-fits}
 use Rattle.rows.proofs.owned.Matrix.row.Needs as need
 use Rattle.std.proofs.shelf.Lists.{length-drop, length-take, take-at}
 use lib.ListN.{drop, length, replicate, take}
@@ -18,7 +18,9 @@ ghost-result-2 c =
     let s = c .args .self .now .side in
     let cells = c .args .self .now .cells in
     let part = small-take (c .args .i * s + s - c .args .i * s) (drop (c .args .i * s) cells) (small-drop (c .args .i * s) cells (c .args .self .now .small)) in
-    (c .args .self .now .few, (rw (c .copy-from-slice .ensures .after) (small-append _ _ part (small-drop (s - 0) (replicate 16 0) (small-zeros 16))), tt))
+    let few = c .args .self .now .few in
+    let long = length-over 0 (s - 0) (replicate 16 0) (c .copy-from-slice .last .self) (omega arith) (omega arith) in
+    (few, (long, (rw (c .copy-from-slice .ensures .after) (small-append _ _ part (small-drop (s - 0) (replicate 16 0) (small-zeros 16))), tt)))
 
 pub returns : need.returns
 returns c =

@@ -1,5 +1,5 @@
-use Prim.Native.Nat.{_-_, _*_, _≤_}
-use Rattle.rows.proofs.Cells.{small-append, small-drop, small-entries, small-same, small-zeros, square-fits}
+use Prim.Native.Nat.{_+_, _-_, _*_, _≤_}
+use Rattle.rows.proofs.Cells.{length-over, small-append, small-drop, small-entries, small-same, small-zeros, square-fits}
 use Rattle.rows.proofs.owned.Matrix.unpack.Needs as need
 use Rattle.rows.specs.Bits.{entries}
 use Rattle.std.proofs.shelf.Counted.{length-map-counting}
@@ -17,8 +17,12 @@ pub ghost-result : need.ghost-result
 ghost-result c =
     let n = c .min-n .result in
     let few : n ≤ 16 = omega arith in
+    let q = square-fits n few in
     let part = small-same (c .unpack .last .to) _ (c .unpack .ensures) (small-entries (c .args .part .now) _) in
-    (few, (small-append (c .unpack .last .to) _ part (small-drop (n * n - 0) (replicate 256 0) (small-zeros 256)), tt))
+    let within : 0 + (n * n - 0) ≤ 256 = omega arith in
+    let same : length (c .unpack .last .to) ≡ n * n - 0 = ap length (c .unpack .ensures) ∙ length-map-counting _ 0 _ ∙ simp (length-take, length-replicate) (omega arith) in
+    let long = length-over 0 (n * n - 0) (replicate 256 0) (c .unpack .last .to) within same in
+    (few, (long, (small-append (c .unpack .last .to) _ part (small-drop (n * n - 0) (replicate 256 0) (small-zeros 256)), tt)))
 
 pub returns : need.returns
 returns c =

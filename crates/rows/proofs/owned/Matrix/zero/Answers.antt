@@ -3,11 +3,11 @@ use Rattle.rows.proofs.Cells.{small-zeros, square-fits}
 use Rattle.rows.proofs.owned.Matrix.zero.Needs as need
 use Rattle.std.proofs.shelf.Lists.{take-replicate}
 use lib.ListN.{replicate}
-use mathlib.Core.Path.{ap, _∙_}
+use mathlib.Core.Path.{ap, refl, _∙_}
 use native.Mathlib.Omega.{arith}
 
 pub ghost-result : need.ghost-result
-ghost-result c = (omega arith, (small-zeros 256, tt))
+ghost-result c = (omega arith, (refl, (small-zeros 256, tt)))
 
 pub returns : need.returns
 returns c =

@@ -1,5 +1,5 @@
-use Prim.Native.Nat.{_-_, _*_, _≤_}
-use Rattle.rows.proofs.Cells.{small-append, small-drop, small-entries, small-same, small-zeros}
+use Prim.Native.Nat.{_+_, _-_, _*_, _≤_}
+use Rattle.rows.proofs.Cells.{length-over, small-append, small-drop, small-entries, small-same, small-zeros}
 use Rattle.rows.proofs.owned.Row.unpack.Needs as need
 use Rattle.rows.specs.Bits.{entries}
 use Rattle.std.proofs.shelf.Counted.{length-map-counting}
@@ -13,7 +13,10 @@ ghost-result c =
     let n = c .min-n .result in
     let few : n ≤ 16 = omega arith in
     let part = small-same (c .unpack .last .to) _ (c .unpack .ensures) (small-entries (c .args .part .now) _) in
-    (few, (small-append (c .unpack .last .to) _ part (small-drop (n - 0) (replicate 16 0) (small-zeros 16)), tt))
+    let within : 0 + (n - 0) ≤ 16 = omega arith in
+    let same : length (c .unpack .last .to) ≡ n - 0 = ap length (c .unpack .ensures) ∙ length-map-counting _ 0 _ ∙ simp (length-take, length-replicate) (omega arith) in
+    let long = length-over 0 (n - 0) (replicate 16 0) (c .unpack .last .to) within same in
+    (few, (long, (small-append (c .unpack .last .to) _ part (small-drop (n - 0) (replicate 16 0) (small-zeros 16)), tt)))
 
 pub returns : need.returns
 returns c =
