@@ -1,5 +1,5 @@
 use Prim.Native.Nat.{ℕ, _+_, _-_, _*_, _/_, _%_, _<_, _≤_}
-use Rattle.frames.proofs.Headers.{heads, unless-none}
+use Rattle.frames.proofs.Headers.{heads, sequence-small, unless-none}
 use Rattle.frames.proofs.Judging.{none-or, or-none}
 use Rattle.frames.specs.Kinds.{headFault, kindNumber, size, stations}
 use Rattle.frames.specs.Said.{Said, request, ack, summary, proposal, prepare, commit}
@@ -161,15 +161,24 @@ sent s space len e =
     let within = f .2 in
     record { none = f .0; long = long; within = omega arith }
 
--- What is fit has a small f.
-pub few-by : (s f : ℕ) (m : Message) → unfit (saidBy s f m) ≡ None → f ≤ 5
-few-by s f m e =
+-- The numbers in the header of what is fit.
+pub record Low (s f q : ℕ) : Type 0 where
+  pub sender : s < 16
+  pub faults : f ≤ 5
+  pub sequence : q < 64
+
+pub low-by : (s f q : ℕ) (m : Message) → ((s f : ℕ) → q ≡ sequenceOf (saidBy s f m)) → unfit (saidBy s f m) ≡ None → Low s f q
+low-by s f q m eq e =
     let x = saidBy s f m in
     let o = or-none (headFault (kindOf x) (senderOf x) (faultsOf x) (sequenceOf x)) (partUnfit x) e in
     let h = heads (kindOf x) (senderOf x) (faultsOf x) (sequenceOf x) (o .0) in
     let few = h .few in
-    let same = faults-by s f m in
-    omega arith
+    let station : senderOf x < 3 * faultsOf x + 1 = h .station in
+    let ef = faults-by s f m in
+    let es = sender-by s f m in
+    let short = sequence-small (kindOf x) (sequenceOf x) (h .sequence) in
+    let same = eq s f in
+    record { sender = omega arith; faults = omega arith; sequence = omega arith }
 
 pub parts-by : (s f : ℕ) (m : Message) → unfit (saidBy s f m) ≡ None → partUnfit (saidBy 0 f m) ≡ None
 parts-by s f m e =
@@ -186,13 +195,14 @@ put-frame (x ∷ y ∷ to) ys a b len l h =
     ap (λ rest. a ∷ b ∷ (ys ++ rest)) (d ∙ ap (λ n. drop n (x ∷ y ∷ to)) same)
 
 -- The header and the body that are written make up the frame.
-pub frame-put : (s f q k len : ℕ) (m : Message) (kind : Kind) (to part : List ℕ) → ((s f : ℕ) → kind ≡ kindOf (saidBy s f m)) → k ≡ kindNumber kind → ((s f : ℕ) → q ≡ sequenceOf (saidBy s f m))
-    → part ≡ bodyOf (saidBy 0 f m) → length (frame (saidBy s f m)) ≡ len → len ≤ length to
-    → putMid 2 (len - 2) (set (set to 0 (headNumber k s f q / 256)) 1 (headNumber k s f q % 256)) part ≡ frame (saidBy s f m) ++ drop len to
-frame-put s f q k len m kind to part ekind ek eq ep long within =
+pub frame-put : (s f q n len : ℕ) (m : Message) (kind : Kind) (to part : List ℕ) → ((s f : ℕ) → kind ≡ kindOf (saidBy s f m)) → ((s f : ℕ) → q ≡ sequenceOf (saidBy s f m))
+    → n ≡ headNumber (kindNumber kind) s f q → part ≡ bodyOf (saidBy 0 f m) → length (frame (saidBy s f m)) ≡ len → len ≤ length to
+    → putMid 2 (len - 2) (set (set to 0 (n / 256)) 1 (n % 256)) part ≡ frame (saidBy s f m) ++ drop len to
+frame-put s f q n len m kind to part ek eq en ep long within =
     let x = saidBy s f m in
-    let n : headNumber k s f q ≡ headNumber (kindNumber (kindOf x)) (senderOf x) (faultsOf x) (sequenceOf x) =
-    ap (λ k. headNumber k s f q) (ek ∙ ap kindNumber (ekind s f)) ∙ ap (λ z. headNumber (kindNumber (kindOf x)) z f q) (sym (sender-by s f m))
+    let e : n ≡ headNumber (kindNumber (kindOf x)) (senderOf x) (faultsOf x) (sequenceOf x) =
+    en ∙ ap (λ k. headNumber (kindNumber k) s f q) (ek s f) ∙ ap (λ z. headNumber (kindNumber (kindOf x)) z f q) (sym (sender-by s f m))
     ∙ ap (λ z. headNumber (kindNumber (kindOf x)) (senderOf x) z q) (sym (faults-by s f m)) ∙ ap (headNumber (kindNumber (kindOf x)) (senderOf x) (faultsOf x)) (eq s f) in
-    put-frame to part (headNumber k s f q / 256) (headNumber k s f q % 256) len (omega arith) within
-    ∙ ap (λ h. (h / 256 ∷ h % 256 ∷ part) ++ drop len to) n ∙ ap (λ b. (headBytes (headNumber (kindNumber (kindOf x)) (senderOf x) (faultsOf x) (sequenceOf x)) ++ b) ++ drop len to) (ep ∙ body-by 0 s f m)
+    put-frame to part (n / 256) (n % 256) len (omega arith) within
+    ∙ ap (λ h. (h / 256 ∷ h % 256 ∷ part) ++ drop len to) e
+    ∙ ap (λ b. (headBytes (headNumber (kindNumber (kindOf x)) (senderOf x) (faultsOf x) (sequenceOf x)) ++ b) ++ drop len to) (ep ∙ body-by 0 s f m)

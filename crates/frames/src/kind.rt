@@ -13,7 +13,7 @@ pub enum Kind {
 }
 
 // Who sends a frame, how many faulty stations are borne, and the frame's sequence.
-#[derive(Clone, Copy, PartialEq, Eq, Debug)]
+#[derive(Clone, Copy)]
 pub struct Header {
     pub sender: u8,
     pub faults: u8,

@@ -1,7 +1,7 @@
-ghost use Prim.Native.Nat.{ℕ, _+_, _*_, _≤_};
+ghost use Prim.Native.Nat.{ℕ, _+_, _*_, _<_, _≤_};
 ghost use Rattle.frames.specs.Kinds.{kindNumber};
 ghost use Rattle.frames.specs.Views.{Reads, Valued, saidBy};
-ghost use Rattle.frames.specs.Writing.{bodyOf, countFault, frame as frameOf, kindOf, leaves, partUnfit, sequenceOf, written};
+ghost use Rattle.frames.specs.Writing.{bodyOf, countFault, frame as frameOf, headNumber, kindOf, leaves, partUnfit, sequenceOf, written};
 ghost use Rattle.rows.specs.Values.{matrixOf, rowOf};
 ghost use Rattle.std.specs.Vec.{made};
 ghost use Rattle.std.specs.declared.option.Option.the-variants.{None};
@@ -111,6 +111,15 @@ fn decide(sender: u8, faults: u8, message: &Message, space: usize) -> Result<usi
     Ok(len)
 }
 
+// The number that the header's 16 bits write.
+fn heading(kind: Kind, sender: u8, faults: u8, sequence: u8) -> u16
+    requires low { ⌜ sender < 16 ⌝ ∗ ⌜ faults ≤ 5 ⌝ }
+    requires short { ⌜ sequence < 64 ⌝ }
+    ensures { λ r. ⌜ r ≡ headNumber (kindNumber kind) sender faults sequence ⌝ }
+{
+    ((kind.number() as u16 * 16 + sender as u16) * 8 + faults as u16) * 64 + sequence as u16
+}
+
 // Fills `to` with the body that says this.
 fn fill(message: &Message, faults: u8, to: &mut [u8])
     requires few { ⌜ faults ≤ 5 ⌝ }
@@ -147,8 +156,7 @@ pub fn write(sender: u8, faults: u8, message: &Message, to: &mut [u8]) -> Result
     ensures reads { λ r. ⌜ made r (λ len. Reads (take len (now (to .exit))) (saidBy sender faults (now (message .entry)))) ⌝ }
 {
     let len = decide(sender, faults, message, to.len())?;
-    let head = ((message.kind().number() as u16 * 16 + sender as u16) * 8 + faults as u16) * 64
-        + message.sequence() as u16;
+    let head = heading(message.kind(), sender, faults, message.sequence());
     to[0] = (head / 256) as u8;
     to[1] = (head % 256) as u8;
     fill(message, faults, &mut to[2..len]);
