@@ -27,7 +27,7 @@ impl Kind {
 }
 
 impl Message {
-    pub fn kind(&self) -> Kind
+    pub(crate) fn kind(&self) -> Kind
         ensures { λ r. ⌜ ((s f : ℕ) → r ≡ kindOf (saidBy s f (now (self .entry)))) ⌝ }
     {
         match self {
@@ -41,7 +41,7 @@ impl Message {
     }
 
     // The sequence in the header: 0 in a summary.
-    pub fn sequence(&self) -> u8
+    pub(crate) fn sequence(&self) -> u8
         ensures { λ r. ⌜ ((s f : ℕ) → r ≡ sequenceOf (saidBy s f (now (self .entry)))) ⌝ }
     {
         match self {

@@ -1,6 +1,7 @@
 use Prim.Native.Nat.{ℕ, zero, suc, _+_, _-_, _*_, _<_, _≤_}
 use Rattle.rows.proofs.Repack.{field-below}
 use Rattle.rows.specs.Bits.{Small, fieldOf, repacked}
+use Rattle.rows.specs.Caps.{cappedAt}
 use Rattle.rows.specs.Values.{placed, rowIn}
 use Rattle.std.proofs.shelf.Bits.{mul-le, mul-lt}
 use Rattle.std.proofs.shelf.Counted.{length-map-counting, getD-map-counting}
@@ -98,3 +99,8 @@ small-same xs ys e a k = rw e (a k)
 -- A part that is written over leaves the length.
 pub length-over : (a k : ℕ) (xs ys : List ℕ) → a + k ≤ length xs → length ys ≡ k → length (putMid a k xs ys) ≡ length xs
 length-over a k xs ys h e = simp (length-append, length-take, length-drop) (omega arith)
+
+pub small-capped : (limit : ℕ) (xs : List ℕ) → Small xs → Small (cappedAt limit xs)
+small-capped limit [] a k = omega arith
+small-capped limit (x ∷ xs) a zero = let h : x < 64 = a 0 in omega arith
+small-capped limit (x ∷ xs) a (suc k) = small-capped limit xs (λ j. a (suc j)) k

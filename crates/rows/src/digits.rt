@@ -1,5 +1,6 @@
 ghost use Prim.Native.Nat.{ℕ, _+_, _-_, _*_, _/_, _%_, _^_, _<_, _≤_, min};
 ghost use Rattle.rows.specs.Bits.{field, fieldOf, room, packed, entries, Small};
+ghost use Rattle.rows.specs.Caps.{cappedAt};
 ghost use lib.ListN.{length, getD};
 ghost use mathlib.Core.Path.{_≡_};
 
@@ -83,5 +84,14 @@ pub(crate) fn pack(entries: &[u8], to: &mut [u8])
 {
     for j in 0..to.len() {
         to[j] = byte(entries, j);
+    }
+}
+
+// Makes each entry above the limit the limit.
+pub(crate) fn cap(entries: &mut [u8], limit: u8)
+    ensures { λ _. ⌜ now (entries .exit) ≡ cappedAt limit (now (entries .entry)) ⌝ }
+{
+    for x in entries.iter_mut() {
+        *x = (*x).min(limit);
     }
 }

@@ -10,3 +10,4 @@ pub use digits::word;
 pub use matrix::MatrixWord;
 pub use owned::Matrix;
 pub use owned::Row;
+pub use row::RowWord;

@@ -1,11 +1,13 @@
 ghost use Prim.Native.Nat.{ℕ, _+_, _*_, _/_, _<_, _≤_, min};
 ghost use Rattle.rows.specs.Bits.{entries, packed, room};
+ghost use Rattle.rows.specs.Caps.{cappedAt};
 ghost use Rattle.rows.specs.Values.{matrixOf, placed, rowIn, rowOf};
 ghost use lib.Dec.{eqb, leb, ltb};
-ghost use lib.ListN.{length, getD, drop, replicate};
+ghost use lib.ListN.{length, getD, drop, replicate, set as changed};
 ghost use mathlib.Core.Bool.{cond, _&&_};
 ghost use mathlib.Core.List.{List, _++_};
 ghost use mathlib.Core.Path.{_≡_};
+use crate::digits::cap;
 use crate::digits::pack;
 use crate::digits::unpack;
 use crate::owned::Matrix;
@@ -93,6 +95,33 @@ impl Matrix {
         }
         pack(&self.cells[0..n * n], &mut to[0..bytes]);
         true
+    }
+
+    // Makes entry j of row i this value, if there is such an entry and the value is below 64.
+    pub fn set(&mut self, i: usize, j: usize, value: u8) -> bool
+        ensures answer { λ r. ⌜ r ≡ (ltb i (now (self .entry) .side) && (ltb j (now (self .entry) .side) && ltb value 64)) ⌝ }
+        ensures side { λ r. ⌜ now (self .exit) .side ≡ now (self .entry) .side ⌝ }
+        ensures means { λ r. ⌜ matrixOf (now (self .exit)) ≡ cond r (changed (matrixOf (now (self .entry))) (i * now (self .entry) .side + j) value) (matrixOf (now (self .entry))) ⌝ }
+    {
+        let side = self.side as usize;
+        if i < side && j < side && value < 64 {
+            self.cells[i * side + j] = value;
+            return true;
+        }
+        false
+    }
+
+    // The same matrix with each entry above the limit read as the limit.
+    pub fn capped(&self, limit: u8) -> Matrix
+        ensures side { λ r. ⌜ r .side ≡ now (self .entry) .side ⌝ }
+        ensures means { λ r. ⌜ matrixOf r ≡ cappedAt limit (matrixOf (now (self .entry))) ⌝ }
+    {
+        let mut cells = self.cells;
+        cap(&mut cells, limit);
+        Matrix {
+            side: self.side,
+            cells,
+        }
     }
 }
 

@@ -1,14 +1,17 @@
 ghost use Prim.Native.Nat.{ℕ, _+_, _*_, _/_, _<_, _≤_, min};
 ghost use Rattle.rows.specs.Bits.{entries, packed, room};
+ghost use Rattle.rows.specs.Caps.{cappedAt};
 ghost use Rattle.rows.specs.Values.{rowOf};
 ghost use lib.Dec.{leb, ltb};
 ghost use lib.ListN.{length, getD, drop, replicate, set as changed};
 ghost use mathlib.Core.Bool.{cond, _&&_};
-ghost use mathlib.Core.List.{_++_};
+ghost use mathlib.Core.List.{List, _++_};
 ghost use mathlib.Core.Path.{_≡_};
+use crate::digits::cap;
 use crate::digits::pack;
 use crate::digits::unpack;
 use crate::owned::Row;
+use model::Word;
 
 impl Row {
     // A row of so many zeros, at most 16.
@@ -72,5 +75,30 @@ impl Row {
         }
         pack(&self.cells[0..n], &mut to[0..bytes]);
         true
+    }
+
+    // The same row with each entry above the limit read as the limit.
+    pub fn capped(&self, limit: u8) -> Row
+        ensures side { λ r. ⌜ r .side ≡ now (self .entry) .side ⌝ }
+        ensures means { λ r. ⌜ rowOf r ≡ cappedAt limit (rowOf (now (self .entry))) ⌝ }
+    {
+        let mut cells = self.cells;
+        cap(&mut cells, limit);
+        Row {
+            side: self.side,
+            cells,
+        }
+    }
+}
+
+// A row as a word: equal when the entries are.
+pub impl Word for Row as RowWord {
+    ghost Value = { List ℕ };
+
+    ghost means = { rowOf };
+
+    fn same(&self, other: &Row) -> bool {
+        let cells = self.side as usize;
+        self.side == other.side && self.cells[0..cells] == other.cells[0..cells]
     }
 }
