@@ -45,7 +45,7 @@ fn filling(n: usize, body: &[u8]) -> Option<Fault>
     None
 }
 
-// What is refused of the fields of an ack's body, where there are n stations.
+// What is refused of the fields of an ack's body.
 fn ack_fault<O: Operation + Drop>(faults: u8, body: &[u8]) -> Option<Fault>
     requires { ⌜ faults ≤ 5 ⌝ }
     ensures { λ r. ⌜ r ≡ partFault (O·Operation .refused) Ack faults (now (body .entry)) ⌝ }
