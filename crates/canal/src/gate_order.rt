@@ -2,6 +2,7 @@ ghost use Prim.Native.Nat.{_^_, _<_, _≤_};
 
 mod packing;
 
+pub use packing::GateOrderDisplay;
 pub use packing::GateOrderOperation;
 pub use packing::GateOrderWord;
 

@@ -12,6 +12,7 @@ use model::Fault;
 use model::Operation;
 use model::Reason;
 use model::Word;
+use std::fmt;
 
 const GATE: Field = Field {
     at: 2,
@@ -113,5 +114,17 @@ pub impl Operation for GateOrder as GateOrderOperation {
             MINUTE.of(bits),
             NUMBER.of(bits),
         )
+    }
+}
+
+// The fields in their order, without the tag.
+pub impl fmt::Display for GateOrder as GateOrderDisplay {
+    fn fmt<W: fmt::Write>(&self, f: &mut fmt::Formatter<W>) -> fmt::Result {
+        let gate = self.gate;
+        let opening = self.opening;
+        let day = self.day;
+        let minute = self.minute;
+        let number = self.number;
+        write!(f, "{gate} {opening} {day} {minute} {number}")
     }
 }

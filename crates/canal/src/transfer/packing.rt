@@ -13,6 +13,7 @@ use model::Fault;
 use model::Operation;
 use model::Reason;
 use model::Word;
+use std::fmt;
 
 const SOURCE: Field = Field {
     at: 2,
@@ -119,5 +120,16 @@ pub impl Operation for Transfer as TransferOperation {
             ZEROS.of(bits),
             NUMBER.of(bits),
         )
+    }
+}
+
+// The fields in their order, without the tag and the zero bits.
+pub impl fmt::Display for Transfer as TransferDisplay {
+    fn fmt<W: fmt::Write>(&self, f: &mut fmt::Formatter<W>) -> fmt::Result {
+        let source = self.source;
+        let target = self.target;
+        let volume = self.volume;
+        let number = self.number;
+        write!(f, "{source} {target} {volume} {number}")
     }
 }

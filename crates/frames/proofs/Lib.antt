@@ -1,0 +1,5 @@
+pub mod Bodies
+pub mod Headers
+pub mod Judging
+pub mod Sending
+pub mod Whole

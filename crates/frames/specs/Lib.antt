@@ -1,0 +1,5 @@
+pub mod Kinds
+pub mod Meaning
+pub mod Said
+pub mod Views
+pub mod Writing
