@@ -21,6 +21,16 @@ use std::io::Read;
 use told::ToldDisplay;
 use told::tell;
 
+fn print_line<O: Operation + fmt::Display + Drop>(rt: &LibcRuntime, line: &[u8]) -> io::Result<()> {
+    match unhex(rt.alloc(), line)? {
+        Some(bytes) => {
+            let told = tell::<O>(bytes.as_slice());
+            println!(rt, "{told}")
+        }
+        None => println!(rt, "bad"),
+    }
+}
+
 fn print_frames<O: Operation + fmt::Display + Drop>(
     rt: &LibcRuntime,
     text: &[u8],
@@ -28,13 +38,7 @@ fn print_frames<O: Operation + fmt::Display + Drop>(
     let mut rest = text;
     while !rest.is_empty() {
         let (line, more) = split_line(rest);
-        match unhex(rt.alloc(), line)? {
-            Some(bytes) => {
-                let told = tell::<O>(bytes.as_slice());
-                println!(rt, "{told}")?;
-            }
-            None => println!(rt, "bad")?,
-        }
+        print_line::<O>(rt, line)?;
         rest = more;
     }
     Ok(())

@@ -1,3 +1,8 @@
+ghost use Prim.Native.Nat.{ℕ};
+ghost use Rattle.frames.specs.Views.{saidOf};
+ghost use Rattle.frames_tool.specs.Telling.{Tells, accepted, operationIn};
+ghost use Rattle.std.specs.Options.{mapped};
+ghost use mathlib.Core.Path.{_≡_};
 use frames::Frame;
 use frames::read;
 use model::Fault;
@@ -12,8 +17,10 @@ pub enum Told<'a, O> {
     Refused(Fault),
 }
 
-// The operation of a request or an ack.
-fn carried<O: Operation + Drop>(frame: Frame<'_>) -> Option<O> {
+// The operation of a request or an ack, unless it is refused.
+fn carried<O: Operation + Drop>(frame: Frame<'_>) -> Option<O>
+    ensures { λ r. ⌜ mapped (O·Operation .bits) r ≡ accepted (O·Operation .refused) (operationIn (saidOf (frame .entry))) ⌝ }
+{
     let packed = match frame {
         Frame::Request { packed, .. } => packed,
         Frame::Ack { packed, .. } => packed,
@@ -22,7 +29,10 @@ fn carried<O: Operation + Drop>(frame: Frame<'_>) -> Option<O> {
     O::unpack(packed).ok()
 }
 
-pub fn tell<O: Operation + Drop>(bytes: &[u8]) -> Told<'_, O> {
+// What the bytes say, or why they say nothing.
+pub fn tell<O: Operation + Drop>(bytes: &[u8]) -> Told<'_, O>
+    ensures { λ r. ⌜ Tells (O·Operation .bits) (O·Operation .refused) (now (bytes .entry)) r ⌝ }
+{
     match read::<O>(bytes) {
         Ok(frame) => Told::Frame(frame, carried::<O>(frame)),
         Err(e) => Told::Refused(e),
