@@ -1,2 +1,4 @@
 pub mod Faults
+pub mod Quorums
+pub mod Sets
 pub mod Words
