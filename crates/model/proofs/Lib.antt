@@ -1,2 +1,3 @@
+pub mod Backing
 pub mod Meeting
 pub mod Members

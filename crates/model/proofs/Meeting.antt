@@ -13,7 +13,7 @@ use Rattle.std.proofs.shelf.Tests.{cases-lt, cases-eq, cases-bool}
 use Rattle.std.specs.declared.option.Option.{Option}
 use Rattle.std.specs.declared.option.Option.the-variants.{Some, None}
 use Rattle.model.specs.Sets.{named, Names, Within, joined, parted}
-use Rattle.model.specs.Quorums.{stations, quorum, AtLeast, Holds, Backers, Tally, Certificate, Ordered, Meet, Shared, Most}
+use Rattle.model.specs.Quorums.{stations, quorum, AtLeast, Holds, Backers, Tally, Certificate, Ordered, OrderedAt, Meet, Shared, Most}
 use Rattle.model.proofs.Members.{below-from-within, within-from-below, ones-none, ones-subset, ones-meet, ones-outside, named-meet, apart, ones-apart, apart-names, parted-keeps, parted-names, parted-least, joined-many, joined-keeps, joined-lt}
 
 pub meet : Meet
@@ -119,3 +119,25 @@ module _ {V : Type 0} where
       λ j n. let p = parted-names a head j n in (p .0, ha j (p .1)),
     ),
   )
+
+  -- what the head's place holds has a certificate exactly if enough others back it, and nothing else has one
+  pub certificate-none : (f : ℕ) (places : List (Option V)) (head : ℕ) (v : V) (set : ℕ) → Holds places v head → Backers places v set → ones (parted set head) < 2 * f
+      → (w : V) → Certificate f places head w → ⊥
+  certificate-none f places head v set h b few w (k, a) =
+      let e = one-word places w v head k h in
+      let n = others-backers places v set head (2 * f) b (subst (λ x. AtLeast (2 * f) (λ j. (j ≢ head) × Holds places x j)) e a) in
+      omega arith
+
+  pub tally-most : (f : ℕ) (places : List (Option V)) (v : V) (m : ℕ) → Tally places v m → quorum f ≤ m → Ordered f places v
+  tally-most f places v m (set, b, e) h = backers-least places v set (quorum f) b (omega (arith, e))
+
+  pub most-tally : (f : ℕ) (places : List (Option V)) (v : V) (m : ℕ) → Tally places v m → Ordered f places v → quorum f ≤ m
+  most-tally f places v m (set, b, e) h = omega (arith, e, least-backers places v set (quorum f) b h)
+
+  -- if the word at a place is not ordered, no word there is
+  pub other-ordered : (f : ℕ) (places : List (Option V)) (at : ℕ) (v : V) → Holds places v at → OrderedAt f places at → Ordered f places v
+  other-ordered f places at v h (w, k, o) = subst (Ordered f places) (one-word places w v at k h) o
+
+  pub ordered-somewhere : (f : ℕ) (places : List (Option V)) (v : V) → Ordered f places v → (at : ℕ) × (at < length places) × OrderedAt f places at
+  ordered-somewhere f places v o =
+      let r = somebody (2 * f) (Holds places v) o in (r .0, holds-below places v (r .0) (r .2), (v, r .2, o))

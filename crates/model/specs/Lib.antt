@@ -1,4 +1,5 @@
 pub mod Faults
 pub mod Quorums
 pub mod Sets
+pub mod Watches
 pub mod Words

@@ -56,6 +56,9 @@ Certified {V} f places head = (v : V) × Certificate f places head v
 abbrev pub Ordered : {V : Type 0} → ℕ → List (Option V) → V → Type 0
 Ordered f places v = AtLeast (quorum f) (Holds places v)
 
+abbrev pub OrderedAt : {V : Type 0} → ℕ → List (Option V) → ℕ → Type 0
+OrderedAt {V} f places at = (v : V) × Holds places v at × Ordered f places v
+
 -- An answer is a value of which P holds, or that P holds of none.
 abbrev pub Answers : {V : Type 0} → (V → Type 0) → Option V → Type 0
 Answers P (Some v) = P v
