@@ -1,0 +1,6 @@
+// Rows and the order: how rows compare, what a matrix of rows makes eligible, and in which order operations come.
+mod rows;
+mod standing;
+
+pub use rows::compare;
+pub use standing::Standing;
