@@ -21,9 +21,9 @@ module _ (test : ℕ → Bool) where
   pub every-fails : (n k : ℕ) → k < n → test k ≡ false → every n test ≡ false
   every-fails zero k l t = absurd (omega arith)
   every-fails (suc n) k l t =
-      elim (cases-eq k n)
-      [ inl e ↦ and-left (test n) (every n test) (ap test (sym e) ∙ t)
-      | inr ne ↦ and-right (test n) (every n test) (every-fails n k (omega arith) t)
+      elim (cases-eq k n) [
+        | inl e ↦ and-left (test n) (every n test) (ap test (sym e) ∙ t)
+        | inr ne ↦ and-right (test n) (every n test) (every-fails n k (omega arith) t)
       ]
 
   pub any-more : (i : ℕ) → any i test ≡ false → test i ≡ false → any (i + 1) test ≡ false
@@ -32,9 +32,9 @@ module _ (test : ℕ → Bool) where
   pub any-finds : (n k : ℕ) → k < n → test k ≡ true → any n test ≡ true
   any-finds zero k l t = absurd (omega arith)
   any-finds (suc n) k l t =
-      elim (cases-eq k n)
-      [ inl e ↦ or-left (test n) (any n test) (ap test (sym e) ∙ t)
-      | inr ne ↦ or-right (test n) (any n test) (any-finds n k (omega arith) t)
+      elim (cases-eq k n) [
+        | inl e ↦ or-left (test n) (any n test) (ap test (sym e) ∙ t)
+        | inr ne ↦ or-right (test n) (any n test) (any-finds n k (omega arith) t)
       ]
 
 decides-leb : (a b : ℕ) → Decides (leb a b) (a ≤ b)

@@ -1,8 +1,14 @@
 // Rows and the order: how rows compare, what a matrix of rows makes eligible, and in which order operations come.
 mod columns;
+mod key;
+mod reach;
 mod rows;
 mod standing;
+mod turns;
 
 pub use columns::column;
+pub use key::Key;
+pub use reach::Reach;
 pub use rows::compare;
 pub use standing::Standing;
+pub use turns::kth;

@@ -9,7 +9,11 @@ use model::Watch;
 fn entry(row: &[u8], origin: usize, limit: u8) -> u8
     ensures { λ r. ⌜ r ≡ entryOf (read limit (now (row .entry))) origin ⌝ }
 {
-    if origin < row.len() { row[origin].min(limit) } else { 0 }
+    if origin < row.len() {
+        row[origin].min(limit)
+    } else {
+        0
+    }
 }
 
 // Whether no entry of `a` is smaller than that of `b`.

@@ -23,11 +23,11 @@ pub loop-k-again : need.loop-k-again
 loop-k-again c =
     let test : ℕ → Bool = λ k. leb (c .loop-s .s) (cell (c .stations-n .result) (c .args .matrix .now) k (c .args .origin)) in
     let count : c .if-cell-s .rows ≡ ones (gathered (c .loop-k .k + 1) test) =
-      elim (c .if-cell-s .came)
-      [ then-cell-s w ↦ w .rows-is ∙ more test (c .loop-k .k) (c .loop-k .rows) true (c .loop-k .inv .0) (le-leb _ _ (omega (arith, w .if-cell-s .taken, c .cell .ensures)))
+    elim (c .if-cell-s .came) [
+      | then-cell-s w ↦ w .rows-is ∙ more test (c .loop-k .k) (c .loop-k .rows) true (c .loop-k .inv .0) (le-leb _ _ (omega (arith, w .if-cell-s .taken, c .cell .ensures)))
       | else-cell-s w ↦ omega (arith, w .rows-is, more test (c .loop-k .k) (c .loop-k .rows) false (c .loop-k .inv .0) (lt-leb _ _ (omega (arith, w .if-cell-s .left, c .cell .ensures))))
-      ]
-      in
+    ]
+    in
     (count, c .if-rows-quorum .left)
 
 pub loop-s-again : need.loop-s-again
@@ -48,11 +48,11 @@ returns-then-rows-quorum c =
     let o = c .args .origin in
     let test : ℕ → Bool = λ k. leb (c .loop-s .s) (cell n X k o) in
     let count : c .if-cell-s .rows ≡ ones (gathered (c .loop-k .k + 1) test) =
-      elim (c .if-cell-s .came)
-      [ then-cell-s w ↦ w .rows-is ∙ more test (c .loop-k .k) (c .loop-k .rows) true (c .loop-k .inv .0) (le-leb _ _ (omega (arith, w .if-cell-s .taken, c .cell .ensures)))
+    elim (c .if-cell-s .came) [
+      | then-cell-s w ↦ w .rows-is ∙ more test (c .loop-k .k) (c .loop-k .rows) true (c .loop-k .inv .0) (le-leb _ _ (omega (arith, w .if-cell-s .taken, c .cell .ensures)))
       | else-cell-s w ↦ omega (arith, w .rows-is, more test (c .loop-k .k) (c .loop-k .rows) false (c .loop-k .inv .0) (lt-leb _ _ (omega (arith, w .if-cell-s .left, c .cell .ensures))))
-      ]
-      in
+    ]
+    in
     sym (column-by (c .args .watch .faults) (c .args .watch .limit) X o n q (c .stations-n .ensures) (c .quorum-quorum .ensures)
     ∙ c .loop-s .inv ∙ largest-here (λ s. enough q n (λ k. leb s (cell n X k o))) (c .loop-s .s) (c .loop-s-test .taken)
     (enough-found q n test (c .loop-k .k + 1) (omega arith) (omega (arith, count, c .if-rows-quorum .taken))))
