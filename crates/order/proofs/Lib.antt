@@ -1,3 +1,4 @@
 pub mod Comparing
+pub mod Parts
 pub mod Searching
 pub mod Spans

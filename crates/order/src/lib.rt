@@ -3,6 +3,7 @@ mod columns;
 mod key;
 mod reach;
 mod rows;
+mod runs;
 mod standing;
 mod turns;
 
@@ -10,5 +11,6 @@ pub use columns::column;
 pub use key::Key;
 pub use reach::Reach;
 pub use rows::compare;
+pub use runs::unbroken;
 pub use standing::Standing;
 pub use turns::kth;
