@@ -1,6 +1,7 @@
 // Rows and the order: how rows compare, what a matrix of rows makes eligible, and in which order operations come.
 mod columns;
 mod key;
+mod laws;
 mod reach;
 mod rows;
 mod runs;
@@ -9,6 +10,8 @@ mod turns;
 
 pub use columns::column;
 pub use key::Key;
+pub use laws::order_stands;
+pub use laws::rows_stand;
 pub use reach::Reach;
 pub use rows::compare;
 pub use runs::unbroken;
