@@ -3,6 +3,7 @@ use mathlib.Core.Logic.{inl, inr}
 use mathlib.Core.Path.{_≡_, sym, subst}
 use native.Mathlib.Omega.{arith}
 use Rattle.std.proofs.shelf.Tests.{cases-eq}
+use Rattle.std.proofs.shelf.Ways.{not-from-decides}
 use Rattle.model.specs.Quorums.{held}
 use Rattle.order.specs.Runs.{CertifiedAt}
 use Rattle.order.proofs.runs.unbroken.Needs as need
@@ -20,3 +21,10 @@ pub returns : need.returns
 returns g c =
     let e : c .loop-before .before ≡ c .args .watch .limit = omega arith in
     (omega arith, λ s low high. c .loop-before .inv s low (omega arith), λ l. absurd (omega arith))
+
+pub loop-before-holds : need.loop-before-holds
+loop-before-holds g c = λ s low high. absurd (omega arith)
+
+pub returns-then-not-next-certified : need.returns-then-not-next-certified
+returns-then-not-next-certified g c =
+    (omega arith, c .loop-before .inv, λ l. not-from-decides (c .next-certified .result) (c .next-certified .ensures) (c .if-not-next-certified .taken))
