@@ -15,7 +15,7 @@ pub use places::certified;
 pub use places::ordered;
 pub use places::tally;
 pub use places::word_at;
-pub use quorums::quorums_meet;
+pub use quorums::quorums_share;
 pub use sets::bearable;
 pub use sets::count;
 pub use sets::names;

@@ -12,7 +12,7 @@ use Rattle.std.proofs.shelf.Lists.{ext-getD}
 use Rattle.std.proofs.shelf.Tests.{cases-bool, cases-eq, cases-lt, and-from, and-left, and-right, or-from, or-left, or-right, leb-true, le-leb}
 use Rattle.std.proofs.shelf.Ways.{decides-below-and, decides-below-or, decides-ltb, not-from-decides}
 use Rattle.std.specs.Orderings.{Decides}
-use Rattle.order.specs.Laws.{Questions, Stands, Standings, Itself, Transitive, Equal}
+use Rattle.order.specs.Laws.{Questions, Stands, Standings, Itself, Transitive, Equal, RowLaws}
 use Rattle.order.specs.Rows.{Row, entry, every, any, noneSmaller, someLarger, standing, UpToDate, Larger}
 use Rattle.order.specs.declared.standing.Standing.{Standing}
 use Rattle.order.specs.declared.standing.Standing.the-variants.{Newer, Known, Inconsistent}
@@ -104,3 +104,6 @@ itself n a = let u : UpToDate n a a = λ o l. omega arith in (u, sym (standings 
 
 pub equal : Equal
 equal n a b la lb h k = ext-getD 0 a b (la ∙ sym lb) (λ o l. omega (arith, h o (omega arith), k o (omega arith)))
+
+pub row-laws : RowLaws
+row-laws = record { questions = questions; standings = standings; itself = itself; transitive = transitive; equal = equal }

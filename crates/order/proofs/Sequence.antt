@@ -17,7 +17,7 @@ use Rattle.std.specs.declared.option.Option.the-variants.{Some, None}
 use Rattle.model.specs.Quorums.{stations, quorum}
 use Rattle.model.proofs.Members.{gathered-lt, gathered-in, gathered-from, ones-subset}
 use Rattle.order.specs.Columns.{Matrix, cell, column, rowsWith}
-use Rattle.order.specs.Laws.{In, Once, Begins, sequences, upward, Gapless, Backed, Adds, Before, Rising, IsOrder, Unique}
+use Rattle.order.specs.Laws.{In, Once, Begins, sequences, upward, Gapless, Backed, Adds, Before, Rising, IsOrder, Unique, OrderLaws}
 use Rattle.order.specs.Orders.{key, reach, span, each, added, raised, orderAfter, order}
 use Rattle.order.specs.declared.key.Key.{Key}
 use Rattle.order.proofs.Searching.{enough, largest-le, largest-passes}
@@ -369,3 +369,6 @@ backed f limit Xs x h =
       omega (arith, a .1 .3, reach-le f limit (take (suc (a .0)) Xs) (x .origin)),
       (r .0, in-take (suc (a .0)) Xs (r .0) (r .1), column-rows f limit (r .0) (x .origin) (x .sequence) low (r .2)),
     )
+
+pub order-laws : OrderLaws
+order-laws = record { once = once; begins = begins; gapless = gapless; backed = backed; unique = unique }

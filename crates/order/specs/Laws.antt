@@ -43,6 +43,14 @@ Transitive = (n : ℕ) (a b c : Row) → UpToDate n a b → UpToDate n b c → U
 abbrev pub Equal : Type 0
 Equal = (n : ℕ) (a b : Row) → length a ≡ n → length b ≡ n → UpToDate n a b → UpToDate n b a → a ≡ b
 
+-- the laws of rows
+pub record RowLaws : Type 0 where
+  pub questions : Questions
+  pub standings : Standings
+  pub itself : Itself
+  pub transitive : Transitive
+  pub equal : Equal
+
 -- ---- the order
 
 abbrev pub In : {A : Type 0} → A → List A → Type 0
@@ -105,3 +113,11 @@ pub record IsOrder (f limit : ℕ) (Xs : List Matrix) (keys : List Key) : Type 0
 -- the order is such a list, and no other list is
 abbrev pub Unique : Type 0
 Unique = (f limit : ℕ) (Xs : List Matrix) → IsOrder f limit Xs (order f limit Xs) × ((keys : List Key) → IsOrder f limit Xs keys → keys ≡ order f limit Xs)
+
+-- the laws of the order
+pub record OrderLaws : Type 0 where
+  pub once : Once
+  pub begins : Begins
+  pub gapless : Gapless
+  pub backed : Backed
+  pub unique : Unique

@@ -1,7 +1,6 @@
 // Rows and the order: how rows compare, what a matrix of rows makes eligible, and in which order operations come.
 mod columns;
 mod key;
-mod laws;
 mod reach;
 mod rows;
 mod runs;
@@ -10,10 +9,9 @@ mod turns;
 
 pub use columns::column;
 pub use key::Key;
-pub use laws::order_stands;
-pub use laws::rows_stand;
 pub use reach::Reach;
 pub use rows::compare;
+pub use rows::consistent;
 pub use runs::unbroken;
 pub use standing::Standing;
 pub use turns::kth;

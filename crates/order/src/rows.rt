@@ -1,6 +1,8 @@
 ghost use Prim.Native.Nat.{ℕ};
 ghost use Rattle.model.specs.Quorums.{stations};
-ghost use Rattle.order.specs.Rows.{entry as entryOf, noneSmaller, read, someLarger, standing};
+ghost use Rattle.order.specs.Laws.{RowLaws};
+ghost use Rattle.order.specs.Rows.{Consistent, entry as entryOf, noneSmaller, read, someLarger, standing};
+ghost use Rattle.std.specs.Orderings.{Decides};
 ghost use mathlib.Core.Path.{_≡_};
 use crate::standing::Standing;
 use model::Watch;
@@ -52,4 +54,13 @@ pub fn compare(watch: Watch, new: &[u8], kept: &[u8]) -> Standing
     } else {
         Standing::Inconsistent
     }
+}
+
+// Whether one of the two rows, read so, is at least as up-to-date as the other. The laws of rows stand here: what the two
+// questions say, that exactly one standing holds, and that being at least as up-to-date is an order.
+pub fn consistent(watch: Watch, a: &[u8], b: &[u8]) -> bool
+    ensures answer { λ r. ⌜ Decides r (Consistent (stations (watch .faults)) (read (watch .limit) (now (a .entry))) (read (watch .limit) (now (b .entry)))) ⌝ }
+    ensures laws { λ _. ⌜ RowLaws ⌝ }
+{
+    none_smaller(watch, a, b) || none_smaller(watch, b, a)
 }

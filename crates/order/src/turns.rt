@@ -1,6 +1,7 @@
 ghost use Prim.Native.Nat.{ℕ, _<_, _≤_};
 ghost use Rattle.model.specs.Quorums.{stations};
 ghost use Rattle.order.specs.Columns.{Matrix};
+ghost use Rattle.order.specs.Laws.{OrderLaws};
 ghost use Rattle.order.specs.Orders.{added, after, found, order as orderOf, total};
 ghost use Rattle.order.specs.Reaches.{Raised, Reached, kept};
 ghost use Rattle.std.specs.Finite.{nth};
@@ -44,8 +45,9 @@ impl Reach {
     fn added_at(&self, watch: Watch, matrix: &[u8], position: u16) -> Option<Key>
         ensures { λ r. ⌜ r ≡ nth (added (watch .faults) (watch .limit) (kept (now (self .entry))) (now (matrix .entry))) position ⌝ }
     {
+        let n = watch.stations();
         let mut left = position;
-        for origin in 0..watch.stations() {
+        for origin in 0..n {
             let old = self.of(origin);
             let count = column(watch, matrix, origin).saturating_sub(old);
             if left < u16::from(count) {
@@ -87,9 +89,13 @@ impl Reach {
     }
 }
 
-// What stands at position `k` of the order that these matrices give, if it comes so far.
+// What stands at position `k` of the order that these matrices give, if it comes so far. The laws of the order stand
+// here: no operation twice, an order over more matrices begins with that over fewer, an origin's sequences rise from 1
+// without a gap, each operation is backed by a quorum of rows, and the order is the one list that has what the proposals
+// add, by proposal, origin and sequence.
 pub fn kth(watch: Watch, matrices: &[[u8; 256]], k: u16) -> Option<Key>
-    ensures { λ r. ⌜ r ≡ nth (orderOf (watch .faults) (watch .limit) (now (matrices .entry))) k ⌝ }
+    ensures laws { λ _. ⌜ OrderLaws ⌝ }
+    ensures answer { λ r. ⌜ r ≡ nth (orderOf (watch .faults) (watch .limit) (now (matrices .entry))) k ⌝ }
 {
     let mut reach = Reach::start();
     for matrix in matrices {
