@@ -1,3 +1,4 @@
+pub mod Decided
 pub mod Faults
 pub mod Quorums
 pub mod Sets
