@@ -1,0 +1,4 @@
+pub mod Backing
+pub mod Deciding
+pub mod Meeting
+pub mod Members

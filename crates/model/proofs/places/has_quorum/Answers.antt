@@ -1,0 +1,15 @@
+use mathlib.Core.Path.{sym}
+use native.Mathlib.Omega.{arith}
+use Rattle.std.proofs.shelf.Tests.{ltb-true, lt-ltb}
+use Rattle.model.specs.Quorums.{held}
+use Rattle.model.proofs.Meeting.{tally-most, most-tally, other-ordered}
+use Rattle.model.proofs.places.has_quorum.Needs as need
+
+pub returns-in-Some : need.returns-in-Some
+returns-in-Some g c =
+    let places = held (g .W·Word .means) (c .args .places .now) in
+    let v = g .W·Word .means (c .in-Some .word .now) in
+    let h = sym (c .in-Some .ensures tt) in (
+      λ e. (v, h, tally-most (c .args .f) places v (c .tally .result) (c .tally .ensures) (omega (arith, ltb-true _ _ e))),
+      λ o. lt-ltb _ _ (omega (arith, most-tally (c .args .f) places v (c .tally .result) (c .tally .ensures) (other-ordered (c .args .f) places (c .args .at) v h o))),
+    )

@@ -1,0 +1,5 @@
+pub mod Comparing
+pub mod Parts
+pub mod Searching
+pub mod Sequence
+pub mod Spans
