@@ -1,5 +1,5 @@
 // The worked examples of the rules, and tests of every layer on values that the rules give.
-ghost use Rattle.examples.specs.Worked.{allHold, worked};
+ghost use Rattle.examples.specs.Worked.{Computed, allHold, worked};
 ghost use lib.ListN.{length};
 ghost use mathlib.Core.Bool.{true};
 ghost use mathlib.Core.Path.{_≡_};
@@ -11,11 +11,17 @@ mod operations;
 #[cfg(test)]
 mod texts;
 
-// How many worked examples there are; all of them hold.
+// How many worked examples there are; all of them hold, and the certificate that is computed in them is the certificate.
 pub fn worked_examples() -> usize
     ensures count { λ r. ⌜ r ≡ length worked ⌝ }
     ensures hold { λ _. ⌜ allHold worked ≡ true ⌝ }
+    ensures computed { λ _. ⌜ Computed ⌝ }
 {
     let packed_forms = 1;
-    packed_forms
+    let frames = 2;
+    let columns = 3;
+    let orders = 1;
+    let certificates = 3;
+    let rows = 2;
+    packed_forms + frames + columns + orders + certificates + rows
 }
