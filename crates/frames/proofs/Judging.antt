@@ -107,3 +107,27 @@ read-inv refused bytes said e =
     let k = kind-inv refused (kindIn (field head 0 3)) (field head 3 4) (field head 7 3) (field head 10 6) body said (sym (meaning-split refused bytes long) ∙ e) in
     record { long = long; kind = k .0; named = k .1; is = judged-inv refused (k .0) (field head 3 4) (field head 7 3) (field head 10 6) body said (k .2) })
     (cases-bool (ltb (length bytes) 2))
+
+-- What reading knows of the bytes, once the kind is known.
+pub record Known (refused : ℕ → Option Fault) (bytes : List ℕ) (kind : Kind) (s f q : ℕ) (o : Option Fault) : Type 0 where
+  pub means : meaning refused bytes ≡ judged refused kind s f q (take (length bytes - 2) (drop 2 bytes))
+  pub refusal : o ≡ orElse (headFault kind s f q) (bodyFault refused kind f (take (length bytes - 2) (drop 2 bytes)))
+
+pub known-err : (refused : ℕ → Option Fault) (bytes : List ℕ) (kind : Kind) (s f q : ℕ) (o : Option Fault) (e : Fault) → Known refused bytes kind s f q o → o ≡ Some e → meaning refused bytes ≡ Err e
+known-err refused bytes kind s f q o e k p = k .means ∙ answer-some _ e _ (sym (k .refusal) ∙ p)
+
+pub known-ok : (refused : ℕ → Option Fault) (bytes : List ℕ) (kind : Kind) (s f q : ℕ) (o : Option Fault) (said : Said) → Known refused bytes kind s f q o → o ≡ None
+    → said ≡ saidIn kind s f q (take (length bytes - 2) (drop 2 bytes)) → (meaning refused bytes ≡ Ok said) × (headFault kind s f q ≡ None)
+known-ok refused bytes kind s f q o said k p e =
+    let none = sym (k .refusal) ∙ p in
+    (k .means ∙ answer-none _ _ none ∙ ap Ok (sym e), or-none (headFault kind s f q) _ none .0)
+
+pub known : (refused : ℕ → Option Fault) (bytes : List ℕ) (kind : Kind) (k s f q : ℕ) (named : Option Kind) (o : Option Fault) → 2 ≤ length bytes
+    → k ≡ field (getD bytes 0 0 ∷ getD bytes 1 0 ∷ []) 0 3 → s ≡ field (getD bytes 0 0 ∷ getD bytes 1 0 ∷ []) 3 4
+    → f ≡ field (getD bytes 0 0 ∷ getD bytes 1 0 ∷ []) 7 3 → q ≡ field (getD bytes 0 0 ∷ getD bytes 1 0 ∷ []) 10 6
+    → named ≡ kindIn k → named ≡ Some kind → o ≡ orElse (headFault kind s f q) (bodyFault refused kind f (take (length bytes - 2) (drop 2 bytes)))
+    → Known refused bytes kind s f q o
+known refused bytes kind k s f q named o long ek es ef eq en is refusal = record {
+  means = meaning-of-kind refused bytes k s f q kind long (record { kind = sym ek; sender = sym es; faults = sym ef; sequence = sym eq }) (sym en ∙ is);
+  refusal = refusal;
+}

@@ -53,7 +53,7 @@ headFault kind sender f q =
     (unless (leb (stations f) sender) FrameSender 3
     (unless (badSequence kind q) FrameSequence 10 None))
 
--- How many entries a row or a matrix of this kind has, and how many bytes the body.
+-- How many bytes the body of a frame of this kind has.
 abbrev pub size : Kind → ℕ → ℕ
 size Request f = 8
 size Ack f = 9
