@@ -1,4 +1,5 @@
 use model::Watch;
+use order::Reach;
 use order::Standing;
 use order::column;
 use order::compare;
@@ -82,6 +83,21 @@ fn an_order() -> Result<(), Fail> {
     check_eq(at(watch, &matrices, 1), (3, 1))?;
     check_eq(at(watch, &matrices, 2), (0, 2))?;
     check_eq(at(watch, &matrices, 3), (99, 99))
+}
+
+#[test]
+fn one_matrix_after_the_other() -> Result<(), Fail> {
+    let watch = watch_of(1, 63)?;
+    let mut reach = Reach::start();
+    check(reach.take(watch, &valued(1, 1), 2).is_none())?;
+    check_eq(reach.ordered(watch), 2)?;
+    match reach.take(watch, &valued(2, 1), 2) {
+        Some(key) => check(key.origin == 0 && key.sequence == 2)?,
+        None => return Err(Fail::new("the third operation")),
+    }
+    check(reach.take(watch, &valued(1, 0), 2).is_none())?;
+    check(reach.of(0) == 2 && reach.of(3) == 1 && reach.of(16) == 0)?;
+    check_eq(reach.ordered(watch), 3)
 }
 
 #[test]
