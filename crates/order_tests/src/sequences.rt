@@ -1,6 +1,8 @@
 use model::Watch;
 use order::Reach;
 use order::Standing;
+use order::StandingDebug;
+use order::StandingPartialEq;
 use order::column;
 use order::compare;
 use order::consistent;
@@ -104,11 +106,14 @@ fn one_matrix_after_the_other() -> Result<(), Fail> {
 fn rows() -> Result<(), Fail> {
     let watch = watch_of(1, 63)?;
     let kept = [1, 0, 2, 0];
-    check(compare(watch, &[0, 1, 2, 0], &kept) as u8 == Standing::Inconsistent as u8)?;
-    check(compare(watch, &[1, 0, 1, 0], &kept) as u8 == Standing::Known as u8)?;
-    check(compare(watch, &kept, &kept) as u8 == Standing::Known as u8)?;
-    check(compare(watch, &[1, 0, 3, 0], &kept) as u8 == Standing::Newer as u8)?;
-    check(compare(watch_of(1, 2)?, &[1, 0, 3, 0], &kept) as u8 == Standing::Known as u8)?;
-    check(compare(watch, &[1, 0, 2, 0, 9], &kept) as u8 == Standing::Known as u8)?;
+    check_eq(compare(watch, &[0, 1, 2, 0], &kept), Standing::Inconsistent)?;
+    check_eq(compare(watch, &[1, 0, 1, 0], &kept), Standing::Known)?;
+    check_eq(compare(watch, &kept, &kept), Standing::Known)?;
+    check_eq(compare(watch, &[1, 0, 3, 0], &kept), Standing::Newer)?;
+    check_eq(
+        compare(watch_of(1, 2)?, &[1, 0, 3, 0], &kept),
+        Standing::Known,
+    )?;
+    check_eq(compare(watch, &[1, 0, 2, 0, 9], &kept), Standing::Known)?;
     check(consistent(watch, &[1, 0, 1], &kept) && !consistent(watch, &[0, 1], &kept))
 }
