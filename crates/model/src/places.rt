@@ -1,7 +1,8 @@
-ghost use Prim.Native.Nat.{ℕ, _≤_};
-ghost use Rattle.model.specs.Quorums.{Answers, Backers, Certificate, Ordered, OrderedAt, Tally, held, meant, stations};
+ghost use Prim.Native.Nat.{ℕ, _*_, _≤_};
+ghost use Rattle.model.specs.Quorums.{Answers, Backers, Certificate, Ordered, OrderedAt, Tally, held, meant, quorum, stations};
 ghost use Rattle.std.specs.Orderings.{Decides};
 ghost use Rattle.std.specs.declared.option.Option.the-variants.{None, Some};
+ghost use lib.Dec.{leb};
 ghost use lib.ListN.{getD, length};
 ghost use mathlib.Core.Path.{_≡_};
 use crate::sets::count;
@@ -52,6 +53,20 @@ pub fn word_at<W: Word>(places: &[Option<W>], at: usize) -> Option<&W>
     }
 }
 
+// Whether so many are a quorum.
+fn is_quorum(number: u8, f: u8) -> bool
+    ensures { λ r. ⌜ r ≡ leb (quorum f) number ⌝ }
+{
+    u16::from(number) >= 2 * u16::from(f) + 1
+}
+
+// Whether so many are enough beside the head.
+fn are_enough(others: u8, f: u8) -> bool
+    ensures { λ r. ⌜ r ≡ leb (2 * f) others ⌝ }
+{
+    u16::from(others) >= 2 * u16::from(f)
+}
+
 // The word that has a certificate under this head, if there is one: the head's place holds it, and at least 2f other
 // places hold the same.
 pub fn certified<W: Word>(places: &[Option<W>], head: usize, f: u8) -> Option<&W>
@@ -60,7 +75,7 @@ pub fn certified<W: Word>(places: &[Option<W>], head: usize, f: u8) -> Option<&W
     match word_at(places, head) {
         Some(word) => {
             let others = count(without(backers(places, word), head));
-            if u16::from(others) >= 2 * u16::from(f) {
+            if are_enough(others, f) {
                 Some(word)
             } else {
                 None
@@ -75,7 +90,7 @@ fn has_quorum<W: Word>(places: &[Option<W>], at: usize, f: u8) -> bool
     ensures { λ r. ⌜ Decides r (OrderedAt f (held (W·Word .means) (now (places .entry))) at) ⌝ }
 {
     match word_at(places, at) {
-        Some(word) => u16::from(tally(places, word)) > 2 * u16::from(f),
+        Some(word) => is_quorum(tally(places, word), f),
         None => false,
     }
 }

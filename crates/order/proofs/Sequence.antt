@@ -14,7 +14,7 @@ use Rattle.std.proofs.shelf.Tests.{cases-bool, cases-lt, cases-eq, eq-eqb, ne-e
 use Rattle.std.specs.Finite.{nth}
 use Rattle.std.specs.declared.option.Option.{Option}
 use Rattle.std.specs.declared.option.Option.the-variants.{Some, None}
-use Rattle.model.specs.Quorums.{stations, quorum}
+use Rattle.model.specs.Quorums.{AtLeast, stations, quorum}
 use Rattle.model.proofs.Members.{gathered-lt, gathered-in, gathered-from, ones-subset}
 use Rattle.order.specs.Columns.{Matrix, cell, column, rowsWith}
 use Rattle.order.specs.Laws.{In, Once, Begins, sequences, upward, Gapless, Backed, Adds, Before, Rising, IsOrder, Unique, OrderLaws}
@@ -372,3 +372,35 @@ backed f limit Xs x h =
 
 pub order-laws : OrderLaws
 order-laws = record { once = once; begins = begins; gapless = gapless; backed = backed; unique = unique }
+
+-- the rows that back it, as a count of stations
+pub rows-least : (f : ℕ) (X : Matrix) (o s : ℕ) → f ≤ 5 → quorum f ≤ ones (rowsWith f X o s) → AtLeast (quorum f) (λ k. (k < stations f) × (s ≤ cell (stations f) X k o))
+rows-least f X o s low h = (
+  rowsWith f X o s,
+  λ j m. omega (arith, gathered-in (stations f) (λ k. leb s (cell (stations f) X k o)) j m .0),
+  h,
+  λ j m. let r = gathered-in (stations f) (λ k. leb s (cell (stations f) X k o)) j m in (r .0, leb-true s (cell (stations f) X j o) (r .1)),
+)
+
+-- ---- orders of matrices that agree agree
+
+module _ {A : Type 0} where
+  cut : (bs xs ys : List A) (p : ℕ) (x y : A) → nth (bs ++ xs) p ≡ Some x → nth (bs ++ ys) p ≡ Some y
+      → ((q : ℕ) → nth xs q ≡ Some x → nth ys q ≡ Some y → x ≡ y) → x ≡ y
+  cut [] xs ys p x y h k rest = rest p h k
+  cut (b ∷ bs) xs ys zero x y h k rest = cc
+  cut (b ∷ bs) xs ys (suc p) x y h k rest = cut bs xs ys p x y h k rest
+
+after-agree : (f limit : ℕ) (b : ℕ → ℕ) (Xs Ys : List Matrix)
+    → ((n : ℕ) (X Y : Matrix) → nth Xs n ≡ Some X → nth Ys n ≡ Some Y → X ≡ Y)
+    → (p : ℕ) (x y : Key) → nth (orderAfter f limit b Xs) p ≡ Some x → nth (orderAfter f limit b Ys) p ≡ Some y → x ≡ y
+after-agree f limit b [] Ys same p x y h k = absurd (some-none h)
+after-agree f limit b (X ∷ Xs) [] same p x y h k = absurd (some-none k)
+after-agree f limit b (X ∷ Xs) (Y ∷ Ys) same p x y h k =
+    cut (added f limit b X) (orderAfter f limit (raised f limit b X) Xs) (orderAfter f limit (raised f limit b X) Ys) p x y h
+    (subst (λ (Z : Matrix). nth (orderAfter f limit b (Z ∷ Ys)) p ≡ Some y) (sym (same 0 X Y refl refl)) k)
+    (λ q. after-agree f limit (raised f limit b X) Xs Ys (λ n. same (suc n)) q x y)
+
+pub orders-agree : (f limit : ℕ) (Xs Ys : List Matrix) → ((n : ℕ) (X Y : Matrix) → nth Xs n ≡ Some X → nth Ys n ≡ Some Y → X ≡ Y)
+    → (p : ℕ) (x y : Key) → nth (order f limit Xs) p ≡ Some x → nth (order f limit Ys) p ≡ Some y → x ≡ y
+orders-agree f limit Xs Ys = after-agree f limit (λ o. 0) Xs Ys

@@ -1,5 +1,8 @@
 use model::Watch;
+use order::Reach;
 use order::Standing;
+use order::StandingDebug;
+use order::StandingPartialEq;
 use order::column;
 use order::compare;
 use order::consistent;
@@ -85,14 +88,32 @@ fn an_order() -> Result<(), Fail> {
 }
 
 #[test]
+fn one_matrix_after_the_other() -> Result<(), Fail> {
+    let watch = watch_of(1, 63)?;
+    let mut reach = Reach::start();
+    check(reach.take(watch, &valued(1, 1), 2).is_none())?;
+    check_eq(reach.ordered(watch), 2)?;
+    match reach.take(watch, &valued(2, 1), 2) {
+        Some(key) => check(key.origin == 0 && key.sequence == 2)?,
+        None => return Err(Fail::new("the third operation")),
+    }
+    check(reach.take(watch, &valued(1, 0), 2).is_none())?;
+    check(reach.of(0) == 2 && reach.of(3) == 1 && reach.of(16) == 0)?;
+    check_eq(reach.ordered(watch), 3)
+}
+
+#[test]
 fn rows() -> Result<(), Fail> {
     let watch = watch_of(1, 63)?;
     let kept = [1, 0, 2, 0];
-    check(compare(watch, &[0, 1, 2, 0], &kept) as u8 == Standing::Inconsistent as u8)?;
-    check(compare(watch, &[1, 0, 1, 0], &kept) as u8 == Standing::Known as u8)?;
-    check(compare(watch, &kept, &kept) as u8 == Standing::Known as u8)?;
-    check(compare(watch, &[1, 0, 3, 0], &kept) as u8 == Standing::Newer as u8)?;
-    check(compare(watch_of(1, 2)?, &[1, 0, 3, 0], &kept) as u8 == Standing::Known as u8)?;
-    check(compare(watch, &[1, 0, 2, 0, 9], &kept) as u8 == Standing::Known as u8)?;
+    check_eq(compare(watch, &[0, 1, 2, 0], &kept), Standing::Inconsistent)?;
+    check_eq(compare(watch, &[1, 0, 1, 0], &kept), Standing::Known)?;
+    check_eq(compare(watch, &kept, &kept), Standing::Known)?;
+    check_eq(compare(watch, &[1, 0, 3, 0], &kept), Standing::Newer)?;
+    check_eq(
+        compare(watch_of(1, 2)?, &[1, 0, 3, 0], &kept),
+        Standing::Known,
+    )?;
+    check_eq(compare(watch, &[1, 0, 2, 0, 9], &kept), Standing::Known)?;
     check(consistent(watch, &[1, 0, 1], &kept) && !consistent(watch, &[0, 1], &kept))
 }

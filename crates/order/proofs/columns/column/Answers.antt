@@ -4,13 +4,12 @@ use mathlib.Core.Path.{_≡_, refl, sym, ap, _∙_}
 use lib.Count.{ones}
 use lib.Dec.{leb}
 use native.Mathlib.Omega.{arith}
-use Rattle.std.proofs.shelf.Tests.{le-leb, lt-leb}
 use Rattle.model.specs.Sets.{gathered}
 use Rattle.model.proofs.Members.{ones-none}
 use Rattle.order.specs.Columns.{cell, largest}
 use Rattle.order.proofs.Searching.{enough, count-more, enough-found, enough-lacking, largest-lower, largest-here, column-by}
 use Rattle.order.proofs.columns.column.Needs as need
-use Rattle.order.proofs.columns.column.Needs.{then-cell-s, else-cell-s}
+use Rattle.order.proofs.columns.column.Needs.{then-reaches, else-reaches}
 
 pub loop-k-holds : need.loop-k-holds
 loop-k-holds c = (sym ones-none, omega arith)
@@ -22,10 +21,10 @@ more test k rows t e h = omega (arith, e, count-more test k, ap (λ b. cond {A =
 pub loop-k-again : need.loop-k-again
 loop-k-again c =
     let test : ℕ → Bool = λ k. leb (c .loop-s .s) (cell (c .stations-n .result) (c .args .matrix .now) k (c .args .origin)) in
-    let count : c .if-cell-s .rows ≡ ones (gathered (c .loop-k .k + 1) test) =
-    elim (c .if-cell-s .came) [
-      | then-cell-s w ↦ w .rows-is ∙ more test (c .loop-k .k) (c .loop-k .rows) true (c .loop-k .inv .0) (le-leb _ _ (omega (arith, w .if-cell-s .taken, c .cell .ensures)))
-      | else-cell-s w ↦ omega (arith, w .rows-is, more test (c .loop-k .k) (c .loop-k .rows) false (c .loop-k .inv .0) (lt-leb _ _ (omega (arith, w .if-cell-s .left, c .cell .ensures))))
+    let count : c .if-reaches .rows ≡ ones (gathered (c .loop-k .k + 1) test) =
+    elim (c .if-reaches .came) [
+      | then-reaches w ↦ w .rows-is ∙ more test (c .loop-k .k) (c .loop-k .rows) true (c .loop-k .inv .0) (sym (c .reaches .ensures) ∙ w .if-reaches .taken)
+      | else-reaches w ↦ omega (arith, w .rows-is, more test (c .loop-k .k) (c .loop-k .rows) false (c .loop-k .inv .0) (sym (c .reaches .ensures) ∙ w .if-reaches .left))
     ]
     in
     (count, c .if-rows-quorum .left)
@@ -47,10 +46,10 @@ returns-then-rows-quorum c =
     let X = c .args .matrix .now in
     let o = c .args .origin in
     let test : ℕ → Bool = λ k. leb (c .loop-s .s) (cell n X k o) in
-    let count : c .if-cell-s .rows ≡ ones (gathered (c .loop-k .k + 1) test) =
-    elim (c .if-cell-s .came) [
-      | then-cell-s w ↦ w .rows-is ∙ more test (c .loop-k .k) (c .loop-k .rows) true (c .loop-k .inv .0) (le-leb _ _ (omega (arith, w .if-cell-s .taken, c .cell .ensures)))
-      | else-cell-s w ↦ omega (arith, w .rows-is, more test (c .loop-k .k) (c .loop-k .rows) false (c .loop-k .inv .0) (lt-leb _ _ (omega (arith, w .if-cell-s .left, c .cell .ensures))))
+    let count : c .if-reaches .rows ≡ ones (gathered (c .loop-k .k + 1) test) =
+    elim (c .if-reaches .came) [
+      | then-reaches w ↦ w .rows-is ∙ more test (c .loop-k .k) (c .loop-k .rows) true (c .loop-k .inv .0) (sym (c .reaches .ensures) ∙ w .if-reaches .taken)
+      | else-reaches w ↦ omega (arith, w .rows-is, more test (c .loop-k .k) (c .loop-k .rows) false (c .loop-k .inv .0) (sym (c .reaches .ensures) ∙ w .if-reaches .left))
     ]
     in
     sym (column-by (c .args .watch .faults) (c .args .watch .limit) X o n q (c .stations-n .ensures) (c .quorum-quorum .ensures)
