@@ -1,2 +1,4 @@
 pub mod Cleared
+pub mod Contents
+pub mod Opening
 pub mod Plans

@@ -1,5 +1,5 @@
 -- The numbers of a run, and when tables will do for it.
-use Prim.Native.Nat.{ℕ, _+_, _*_, _^_, min}
+use Prim.Native.Nat.{ℕ, _+_, _*_, _^_, _≤_, min}
 use Rattle.model.specs.Faults.{fault}
 use Rattle.model.specs.Quorums.{stations}
 use Rattle.model.specs.declared.fault.Fault.{Fault}
@@ -52,14 +52,38 @@ lengthsOf t =
       accused = length (now (t .accused));
     }
 
--- A table of places or entries is too short for N stations and a watch of length L.
+-- How many places each table has, for N stations and a watch of length L.
+abbrev pub wordPlaces : ℕ → ℕ → ℕ
+wordPlaces n l = n * n * l * n
+
+abbrev pub votePlaces : ℕ → ℕ → ℕ
+votePlaces n l = n * l * n
+
+abbrev pub entryPlaces : ℕ → ℕ → ℕ
+entryPlaces n l = n * n * l
+
+-- A table of places or entries is too short.
 abbrev pub fewPlaces : ℕ → ℕ → Lengths → Bool
 fewPlaces n l t =
-    ltb (t .words) (n * n * l * n) || (ltb (t .votes) (n * l * n) || (ltb (t .commits) (n * l * n) || ltb (t .executed) (n * n * l)))
+    ltb (t .words) (wordPlaces n l) || (ltb (t .votes) (votePlaces n l) || (ltb (t .commits) (votePlaces n l) || ltb (t .executed) (entryPlaces n l)))
 
 -- The wire has fewer than w places, or a table with a part for each station is too short.
 abbrev pub fewStations : ℕ → ℕ → Lengths → Bool
 fewStations n w t = ltb (t .wire) w || (ltb (t .kept) (n * n) || (ltb (t .machines) n || (ltb (t .counts) n || ltb (t .accused) n)))
+
+-- The tables are long enough: the same as orders of numbers.
+pub record Places (n l : ℕ) (t : Lengths) : Type 0 where
+  pub words : wordPlaces n l ≤ t .words
+  pub votes : votePlaces n l ≤ t .votes
+  pub commits : votePlaces n l ≤ t .commits
+  pub executed : entryPlaces n l ≤ t .executed
+
+pub record Stations (n w : ℕ) (t : Lengths) : Type 0 where
+  pub wire : w ≤ t .wire
+  pub kept : n * n ≤ t .kept
+  pub machines : n ≤ t .machines
+  pub counts : n ≤ t .counts
+  pub accused : n ≤ t .accused
 
 -- A table is too short.
 abbrev pub short : ℕ → ℕ → ℕ → Lengths → Bool

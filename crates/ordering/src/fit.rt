@@ -1,9 +1,9 @@
 ghost use Prim.Native.Nat.{ℕ, _+_, _*_, _^_, _<_, _≤_};
 ghost use Rattle.model.specs.Quorums.{stations};
-ghost use Rattle.ordering.specs.Plans.{fewPlaces, fewStations, fitted, lengthsOf, plan, planOf, short};
+ghost use Rattle.ordering.specs.Plans.{Places, Stations, entryPlaces, fewPlaces, fewStations, fitted, lengthsOf, plan, planOf, short, votePlaces, wordPlaces};
 ghost use lib.Count.{ones};
 ghost use lib.Dec.{leb, ltb};
-ghost use mathlib.Core.Bool.{_||_};
+ghost use mathlib.Core.Bool.{false, _||_};
 ghost use mathlib.Core.Path.{_≡_};
 use crate::numbers::Fitted;
 use crate::numbers::Numbers;
@@ -13,19 +13,44 @@ use model::Machine;
 use model::Reason;
 use model::Watch;
 
-fn few_places<M: Machine>(watch: Watch, t: &Tables<'_, M>) -> bool
-    ensures { λ r. ⌜ r ≡ fewPlaces (stations (watch .faults)) (watch .limit) (lengthsOf (now (t .entry))) ⌝ }
+// How many places the words of a run take.
+pub(crate) fn word_places(watch: Watch) -> usize
+    ensures is { λ r. ⌜ r ≡ wordPlaces (stations (watch .faults)) (watch .limit) ⌝ }
 {
     let n = watch.stations() as usize;
-    let l = watch.limit as usize;
-    t.words.len() < n * n * l * n
-        || t.votes.len() < n * l * n
-        || t.commits.len() < n * l * n
-        || t.executed.len() < n * n * l
+    n * n * watch.limit as usize * n
+}
+
+// How many places its first votes take, and its commits.
+pub(crate) fn vote_places(watch: Watch) -> usize
+    ensures is { λ r. ⌜ r ≡ votePlaces (stations (watch .faults)) (watch .limit) ⌝ }
+{
+    let n = watch.stations() as usize;
+    n * watch.limit as usize * n
+}
+
+// How many entries its executed lists take.
+pub(crate) fn entry_places(watch: Watch) -> usize
+    ensures is { λ r. ⌜ r ≡ entryPlaces (stations (watch .faults)) (watch .limit) ⌝ }
+{
+    let n = watch.stations() as usize;
+    n * n * watch.limit as usize
+}
+
+fn few_places<M: Machine>(watch: Watch, t: &Tables<'_, M>) -> bool
+    ensures is { λ r. ⌜ r ≡ fewPlaces (stations (watch .faults)) (watch .limit) (lengthsOf (now (t .entry))) ⌝ }
+    ensures room { λ r. ⌜ (r ≡ false → Places (stations (watch .faults)) (watch .limit) (lengthsOf (now (t .entry)))) ⌝ }
+{
+    let votes = vote_places(watch);
+    t.words.len() < word_places(watch)
+        || t.votes.len() < votes
+        || t.commits.len() < votes
+        || t.executed.len() < entry_places(watch)
 }
 
 fn few_stations<M: Machine>(watch: Watch, wire: usize, t: &Tables<'_, M>) -> bool
-    ensures { λ r. ⌜ r ≡ fewStations (stations (watch .faults)) wire (lengthsOf (now (t .entry))) ⌝ }
+    ensures is { λ r. ⌜ r ≡ fewStations (stations (watch .faults)) wire (lengthsOf (now (t .entry))) ⌝ }
+    ensures room { λ r. ⌜ (r ≡ false → Stations (stations (watch .faults)) wire (lengthsOf (now (t .entry)))) ⌝ }
 {
     let n = watch.stations() as usize;
     t.wire.len() < wire
@@ -37,7 +62,9 @@ fn few_stations<M: Machine>(watch: Watch, wire: usize, t: &Tables<'_, M>) -> boo
 
 // Whether a table is too short for a watch and this many places of the wire.
 pub(crate) fn too_short<M: Machine>(watch: Watch, wire: usize, t: &Tables<'_, M>) -> bool
-    ensures { λ r. ⌜ r ≡ short (stations (watch .faults)) (watch .limit) wire (lengthsOf (now (t .entry))) ⌝ }
+    ensures is { λ r. ⌜ r ≡ short (stations (watch .faults)) (watch .limit) wire (lengthsOf (now (t .entry))) ⌝ }
+    ensures places { λ r. ⌜ (r ≡ false → Places (stations (watch .faults)) (watch .limit) (lengthsOf (now (t .entry)))) ⌝ }
+    ensures stations { λ r. ⌜ (r ≡ false → Stations (stations (watch .faults)) wire (lengthsOf (now (t .entry)))) ⌝ }
 {
     few_places(watch, t) || few_stations(watch, wire, t)
 }

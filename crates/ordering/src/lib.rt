@@ -2,10 +2,14 @@
 mod clear;
 mod fit;
 mod numbers;
+mod open;
 mod tables;
 
+pub use numbers::Closed;
+pub use numbers::Declined;
 pub use numbers::Fitted;
 pub use numbers::Numbers;
+pub use numbers::Open;
 pub use tables::Counts;
 pub use tables::Entry;
 pub use tables::Slot;

@@ -1,4 +1,5 @@
 ghost use Prim.Native.Nat.{_+_, _*_, _<_, _≤_};
+use model::Fault;
 use model::Watch;
 
 // The numbers of a run that never change: the watch, the leader, the set of the faulty stations, and how many places of the
@@ -17,4 +18,28 @@ pub struct Numbers {
 #[derive(Drop)]
 pub struct Fitted {
     pub(crate) numbers: Numbers,
+}
+
+// A fitted run that could not be opened, and why.
+#[derive(Drop)]
+pub struct Declined {
+    pub fitted: Fitted,
+    pub fault: Fault,
+}
+
+// An open run: where its wire ends, and the last number that the leader has proposed under.
+#[derive(Drop)]
+pub struct Open {
+    pub(crate) numbers: Numbers,
+    pub(crate) end: u16,
+    pub(crate) last: u8,
+    ghost sound: { (end ≤ numbers .wire) × (last ≤ numbers .watch .limit) },
+}
+
+// A run that was open.
+#[derive(Drop)]
+pub struct Closed {
+    pub(crate) numbers: Numbers,
+    pub(crate) end: u16,
+    pub(crate) last: u8,
 }
