@@ -1,2 +1,3 @@
 pub mod Clearing
+pub mod Items
 pub mod Opened

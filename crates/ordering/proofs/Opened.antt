@@ -22,5 +22,5 @@ pub opens : {Q : Type 0} (p : Plan) (start : Q) (c : Contents Q)
     → words ≡ openedOn p start c .words → votes ≡ openedOn p start c .votes → commits ≡ openedOn p start c .commits
     → kept ≡ openedOn p start c .kept → machines ≡ openedOn p start c .machines → counts ≡ openedOn p start c .counts → accused ≡ openedOn p start c .accused
     → _≡_ {A = Contents Q} (record { wire = c .wire; words = words; votes = votes; commits = commits; kept = kept; executed = c .executed; machines = machines; counts = counts; accused = accused })
-      (openedOn p start c)
+    (openedOn p start c)
 opens p start c words votes commits kept machines counts accused e1 e2 e3 e4 e5 e6 e7 = rw (e1, e2, e3, e4, e5, e6, e7)

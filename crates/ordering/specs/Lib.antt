@@ -2,3 +2,4 @@ pub mod Cleared
 pub mod Contents
 pub mod Opening
 pub mod Plans
+pub mod Reading

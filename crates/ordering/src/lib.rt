@@ -3,6 +3,7 @@ mod clear;
 mod fit;
 mod numbers;
 mod open;
+mod reading;
 mod tables;
 
 pub use numbers::Closed;
