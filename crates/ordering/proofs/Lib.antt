@@ -1,3 +1,4 @@
 pub mod Clearing
 pub mod Items
 pub mod Opened
+pub mod Sending

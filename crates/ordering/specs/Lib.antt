@@ -1,3 +1,4 @@
+pub mod Calls
 pub mod Cleared
 pub mod Contents
 pub mod Opening

@@ -4,6 +4,9 @@ mod fit;
 mod numbers;
 mod open;
 mod reading;
+mod sent;
+mod slots;
+mod submit;
 mod tables;
 
 pub use numbers::Closed;
@@ -11,6 +14,7 @@ pub use numbers::Declined;
 pub use numbers::Fitted;
 pub use numbers::Numbers;
 pub use numbers::Open;
+pub use sent::Sent;
 pub use tables::Counts;
 pub use tables::Entry;
 pub use tables::Slot;

@@ -11,7 +11,7 @@ pub struct Numbers {
     pub faulty: u16,
     pub wire: u16,
     ghost led: { leader < 3 * watch .faults + 1 },
-    ghost wired: { 1 ≤ wire },
+    ghost wired: { (1 ≤ wire) × (wire ≤ 65535) },
 }
 
 // A run whose numbers and tables have been checked.
