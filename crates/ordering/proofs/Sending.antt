@@ -30,10 +30,15 @@ submit-refused r i u t e l q =
 pub submit-accepted : {Q : Type 0} (r : Run Q) (i u : ℕ) (t : Lengths) (k : ℕ) (wire : List (List ℕ)) (counts : List Counts) (bytes : List ℕ)
     → lengthsIn (r .held) ≡ t → Ok k ≡ nextSequence (r .plan) (r .end) t (r .held .counts) i
     → wire ≡ set (r .held .wire) (r .end) bytes → bytes ≡ frame (request i (r .plan .faults) k u) → counts ≡ countedTo i k (r .held .counts)
-    → submitted r i u ≡ Ok (record
-        { answer = record { sequence = k; place = r .end }
-        ; after = record { plan = r .plan; end = r .end + 1; last = r .last
-            ; held = record { wire = wire; words = r .held .words; votes = r .held .votes; commits = r .held .commits; kept = r .held .kept; executed = r .held .executed; machines = r .held .machines; counts = counts; accused = r .held .accused } } })
+    → submitted r i u ≡ Ok (record {
+      answer = record { sequence = k; place = r .end };
+      after = record {
+        plan = r .plan;
+        end = r .end + 1;
+        last = r .last;
+        held = record { wire = wire; words = r .held .words; votes = r .held .votes; commits = r .held .commits; kept = r .held .kept; executed = r .held .executed; machines = r .held .machines; counts = counts; accused = r .held .accused };
+      };
+    })
 submit-accepted r i u t k wire counts bytes l q w b c =
     ap (λ x. then (nextSequence (r .plan) (r .end) x (r .held .counts) i) (λ k. Ok (record { answer = record { sequence = k; place = r .end }; after = sentBy r (frame (request i (r .plan .faults) k u)) (countedTo i k (r .held .counts)) }))) l
     ∙ ap (λ x. then x (λ k. Ok (record { answer = record { sequence = k; place = r .end }; after = sentBy r (frame (request i (r .plan .faults) k u)) (countedTo i k (r .held .counts)) }))) (sym q)

@@ -21,7 +21,8 @@ impl Open {
     pub fn numbers(&self) -> Numbers
         ensures { λ r. ⌜ planOf r ≡ planOf (now (self .entry) .numbers) ⌝ }
     {
-        self.numbers
+        let Open { numbers, .. } = self;
+        *numbers
     }
 
     // Ends the run. What its tables hold can still be read.

@@ -15,10 +15,11 @@ returns-in-Break-sequence g c =
     let o = c .args .self .now in
     let t = c .args .t .now in
     let p = err-from-errBy (c .from-residual .result) (c .from-residual .ensures .1) in
-    rw (p .1, p .2)
-    ( submit-refused (run (g .Op·Operation .bits) (g .M·Machine .means) (o .numbers) (o .end) (o .last) t) (c .args .station)
-      (g .Op·Operation .bits (c .args .u .now)) (lengthsOf t) _ (same-lengths (g .Op·Operation .bits) (g .M·Machine .means) t) (c .in-Break-sequence .ensures tt .is)
-    , refl )
+    rw (p .1, p .2) (
+      submit-refused (run (g .Op·Operation .bits) (g .M·Machine .means) (o .numbers) (o .end) (o .last) t) (c .args .station)
+          (g .Op·Operation .bits (c .args .u .now)) (lengthsOf t) _ (same-lengths (g .Op·Operation .bits) (g .M·Machine .means) t) (c .in-Break-sequence .ensures tt .is),
+      refl,
+    )
 
 pub add-self : need.add-self
 add-self g c = let fits = c .in-Continue-sequence .ensures tt .fits in omega arith
