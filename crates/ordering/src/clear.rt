@@ -7,7 +7,7 @@ ghost use mathlib.Core.Path.{_≡_};
 use model::Machine;
 
 // Empties the first n places.
-pub fn empty<T: Drop>(places: &mut [Option<T>], n: usize)
+pub(crate) fn empty<T: Drop>(places: &mut [Option<T>], n: usize)
     requires { ⌜ n ≤ length (now places) ⌝ }
     ensures { λ _. ⌜ now (places .exit) ≡ front n None (now (places .entry)) ⌝ }
 {
@@ -17,7 +17,7 @@ pub fn empty<T: Drop>(places: &mut [Option<T>], n: usize)
 }
 
 // Makes the first n items this one.
-pub fn fill<T: Copy>(items: &mut [T], n: usize, value: T)
+pub(crate) fn fill<T: Copy>(items: &mut [T], n: usize, value: T)
     requires { ⌜ n ≤ length (now items) ⌝ }
     ensures { λ _. ⌜ now (items .exit) ≡ front n value (now (items .entry)) ⌝ }
 {
@@ -27,7 +27,7 @@ pub fn fill<T: Copy>(items: &mut [T], n: usize, value: T)
 }
 
 // Makes the first n machines copies of this one.
-pub fn copy_all<M: Machine + Drop>(machines: &mut [M], n: usize, start: &M)
+pub(crate) fn copy_all<M: Machine + Drop>(machines: &mut [M], n: usize, start: &M)
     requires { ⌜ n ≤ length (now machines) ⌝ }
     ensures { λ _. ⌜ map (M·Machine .means) (now (machines .exit)) ≡ front n (M·Machine .means (now (start .entry))) (map (M·Machine .means) (now (machines .entry))) ⌝ }
 {
