@@ -1,0 +1,3 @@
+// Tests of runs over gate orders.
+#[cfg(test)]
+mod life;
