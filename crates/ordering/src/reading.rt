@@ -1,17 +1,19 @@
-ghost use Prim.Native.Nat.{ℕ, _<_, _≤_};
+ghost use Prim.Native.Nat.{ℕ, _<_, _≤_, min};
 ghost use Rattle.model.specs.Quorums.{stations};
-ghost use Rattle.ordering.specs.Contents.{contents};
+ghost use Rattle.ordering.specs.Contents.{contents, doneOf};
 ghost use Rattle.ordering.specs.Plans.{Places, Stations, lengthsOf, planOf};
-ghost use Rattle.ordering.specs.Reading.{accusedBy, stateOf, unread};
+ghost use Rattle.ordering.specs.Reading.{accusedBy, executedAt, joined, stateOf, unread};
 ghost use Rattle.std.specs.Options.{mapped};
 ghost use Rattle.std.specs.shelf.Maps.{nth};
-ghost use lib.ListN.{length};
+ghost use lib.ListN.{getD, length};
 ghost use mathlib.Core.Bool.{false};
 ghost use mathlib.Core.Path.{_≡_};
 use crate::fit::too_short;
 use crate::numbers::Closed;
 use crate::numbers::Numbers;
 use crate::numbers::Open;
+use crate::tables::Counts;
+use crate::tables::Entry;
 use crate::tables::Tables;
 use model::Machine;
 use model::names;
@@ -82,6 +84,43 @@ impl Numbers {
             return None;
         }
         at(t.machines, station as usize)
+    }
+
+    // The entry at a position of the station's executed list, counted from 0.
+    pub fn executed<'b, M: Machine>(
+        self,
+        t: &'b Tables<'_, M>,
+        station: u32,
+        position: u32,
+    ) -> Option<&'b Entry<M::Op>>
+        ensures { λ r. ⌜ mapped (λ e. doneOf (Op·Operation .bits) (now e)) r ≡ executedAt (planOf self) (lengthsOf (now (t .entry))) (contents (Op·Operation .bits) (M·Machine .means) (now (t .entry))) station position ⌝ }
+    {
+        if self.unread(t, station) {
+            return None;
+        }
+        let most = self.watch.stations() as usize * self.watch.limit as usize;
+        if position as usize >= executed_by(t.counts, station as usize, most) {
+            return None;
+        }
+        present(t.executed, station as usize * most + position as usize)
+    }
+}
+
+// How many operations the station has executed, read as at most this many.
+fn executed_by(counts: &[Counts], station: usize, most: usize) -> usize
+    requires { ⌜ station < length (now counts) ⌝ }
+    ensures { λ r. ⌜ r ≡ min (getD (now (counts .entry)) station (record { submitted = 0; executed = 0 }) .executed) most ⌝ }
+{
+    (counts[station].executed as usize).min(most)
+}
+
+// What is present at this place, if anything is.
+fn present<T>(items: &[Option<T>], place: usize) -> Option<&T>
+    ensures { λ r. ⌜ mapped now r ≡ joined (nth (now (items .entry)) place) ⌝ }
+{
+    match at(items, place) {
+        Some(item) => item.as_ref(),
+        None => None,
     }
 }
 
