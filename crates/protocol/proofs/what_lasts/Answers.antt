@@ -1,0 +1,5 @@
+use Rattle.protocol.proofs.Safety.{lasting, comparable}
+use Rattle.protocol.proofs.what_lasts.Needs as need
+
+pub returns : need.returns
+returns g c = record { number = c .stations .ensures; places = lasting; summaries = comparable }
