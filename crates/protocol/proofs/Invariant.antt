@@ -419,7 +419,7 @@ inv-step I (inconsistent i j a A c h bad k) = inv-accuse I i j A (liar I i j a h
 inv-step I (execute i x u Xs l q c run here cert cl cq) =
     inv-exec I i (record { origin = x .origin; sequence = x .sequence; operation = u }) Xs l q c run here cert cl cq
 
-zero-row : (n o : ℕ) → entry (replicate n 0) o ≡ 0
+pub zero-row : (n o : ℕ) → entry (replicate n 0) o ≡ 0
 zero-row zero o = refl
 zero-row (suc n) zero = refl
 zero-row (suc n) (suc o) = zero-row n o

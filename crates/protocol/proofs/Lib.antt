@@ -2,3 +2,4 @@ pub mod Lists
 pub mod Places
 pub mod Invariant
 pub mod Safety
+pub mod Speaking

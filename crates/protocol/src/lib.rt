@@ -1,8 +1,8 @@
 // The claims over whole runs, at the level of the protocol: no bytes and no tables. The theorems stand on the contracts
 // of the calls, for every machine.
-ghost use Prim.Native.Nat.{_+_, _*_};
+ghost use Prim.Native.Nat.{_+_};
 ghost use Rattle.model.specs.Quorums.{quorum, stations};
-ghost use Rattle.protocol.specs.Claims.{Comparable, Lasting, OneMatrix, OneOperation, Safe};
+ghost use Rattle.protocol.specs.Claims.{Comparable, Lasting, OneMatrix, OneOperation, Safe, TwoFaced};
 ghost use Rattle.protocol.specs.States.{Mach};
 ghost use mathlib.Core.Path.{_≡_};
 use model::Machine;
@@ -35,4 +35,12 @@ pub fn what_lasts<M: Machine>(_machine: &M, watch: Watch) -> u8
     ensures summaries { λ _. ⌜ Comparable (record { Q = M·Machine .State; step = M·Machine .step }) ⌝ }
 {
     watch.stations()
+}
+
+// How many places a commit needs to be sent: 2f + 1.
+pub fn runs_exist<M: Machine>(_machine: &M, watch: Watch) -> u8
+    ensures number { λ r. ⌜ r ≡ quorum (watch .faults) ⌝ }
+    ensures liar { λ _. ⌜ TwoFaced (record { Q = M·Machine .State; step = M·Machine .step }) ⌝ }
+{
+    watch.quorum()
 }
