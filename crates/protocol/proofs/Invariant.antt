@@ -196,9 +196,9 @@ module _ {M : Mach} {start : M .Q} {σ : State M} (I : Inv start σ) where
     honest = λ x h. elim (in-push (σ .wire) m x h) [ inl e ↦ subst (Honest (σ .run) (σ .place) (own (σ .submitted) (σ .proposed))) (sym e) f | inr q ↦ I .honest x q ];
     sound = λ n X h. sound-mono (σ .run) (σ .wire) m X (elim (in-push (σ .wire) m (say (σ .run .leader) (vote n) (mat X)) h) [ inl e ↦ fair n X (sym e) | inr q ↦ I .sound n X q ]);
     chain = λ j a b c p q. elim (in-push (σ .wire) m (summary j a) p) [
-        inl d ↦ (elim (in-push (σ .wire) m (summary j b) q) [ inl e ↦ inl (λ o l. let z : b ≡ a = cc in le-of-eq (ap (λ x. entry x o) z)) | inr h ↦ new j a b (sym d) c h ])
+      | inl d ↦ (elim (in-push (σ .wire) m (summary j b) q) [ inl e ↦ inl (λ o l. let z : b ≡ a = cc in le-of-eq (ap (λ x. entry x o) z)) | inr h ↦ new j a b (sym d) c h ])
       | inr g ↦ (elim (in-push (σ .wire) m (summary j b) q) [ inl e ↦ (elim (new j b a (sym e) c g) [ inl x ↦ inr x | inr x ↦ inl x ]) | inr h ↦ I .chain j a b c g h ])
-      ];
+    ];
     kept = λ i j. elim (I .kept i j) [ inl z ↦ inl z | inr z ↦ inr (in-left (σ .wire) (m ∷ []) (summary j (σ .kept i j)) z) ];
     spared = I .spared;
     lists = I .lists;
@@ -211,9 +211,9 @@ module _ {M : Mach} {start : M .Q} {σ : State M} (I : Inv start σ) where
       record {
         fit = I .fit;
         source = λ a s b w q. elim (h .filled .1 (spot a s b)) [
-            inl e ↦ (let f = h .filled .0 in let z : say j t v ≡ say b s w = cc in subst (λ m. In m (σ .wire)) z (h .heard))
+          | inl e ↦ (let f = h .filled .0 in let z : say j t v ≡ say b s w = cc in subst (λ m. In m (σ .wire)) z (h .heard))
           | inr e ↦ I .source a s b w (sym e ∙ q)
-          ];
+        ];
         honest = λ m q. honest-mono (σ .run) ext {O = own (σ .submitted) (σ .proposed)} (λ x v q. q) m (I .honest m q);
         sound = I .sound;
         chain = I .chain;
@@ -238,9 +238,9 @@ module _ {M : Mach} {start : M .Q} {σ : State M} (I : Inv start σ) where
     where
       more : (p k w : ℕ) → nth (σ .submitted p) k ≡ Some w → nth (S p) k ≡ Some w
       more p k w h = elim (c .1 p) [
-          inl e ↦ subst (λ x. nth (S x) k ≡ Some w) (sym e) (subst (λ l. nth l k ≡ Some w) (sym (c .0)) (nth-old (σ .submitted o) (u ∷ []) k w (subst (λ x. nth (σ .submitted x) k ≡ Some w) e h)))
+        | inl e ↦ subst (λ x. nth (S x) k ≡ Some w) (sym e) (subst (λ l. nth l k ≡ Some w) (sym (c .0)) (nth-old (σ .submitted o) (u ∷ []) k w (subst (λ x. nth (σ .submitted x) k ≡ Some w) e h)))
         | inr e ↦ subst (λ l. nth l k ≡ Some w) (sym e) h
-        ]
+      ]
 
   inv-proposes : (X : Matrix) → Inv start (proposes (σ .proposed ++ (X ∷ [])) σ)
   inv-proposes X = record {
@@ -263,9 +263,9 @@ module _ {M : Mach} {start : M .Q} {σ : State M} (I : Inv start σ) where
     sound = I .sound;
     chain = I .chain;
     kept = λ x y. elim (c .1 x y) [
-        inl e ↦ (let f = c .0 in let p = e .0 in let q = e .1 in let z : summary j a ≡ summary y (K x y) = cc in inr (subst (λ m. In m (σ .wire)) z h))
+      | inl e ↦ (let f = c .0 in let p = e .0 in let q = e .1 in let z : summary j a ≡ summary y (K x y) = cc in inr (subst (λ m. In m (σ .wire)) z h))
       | inr e ↦ subst (λ b. ZeroRow (σ .run) b ⊎ In (summary y b) (σ .wire)) (sym e) (I .kept x y)
-      ];
+    ];
     spared = I .spared;
     lists = I .lists;
     state = I .state;
@@ -280,10 +280,10 @@ module _ {M : Mach} {start : M .Q} {σ : State M} (I : Inv start σ) where
     chain = I .chain;
     kept = I .kept;
     spared = λ x y p q. elim (c .1 x) [
-        inl e ↦ (let ne : y ≢ j = λ d. bad (subst (Correct (σ .run)) d q) in
+      | inl e ↦ (let ne : y ≢ j = λ d. bad (subst (Correct (σ .run)) d q) in
           ap (λ z. named (A z) y) e ∙ ap (λ s. named s y) (c .0) ∙ joined-keeps (σ .accused i) j y ne ∙ I .spared i y (subst (Correct (σ .run)) e p) q)
       | inr e ↦ ap (λ s. named s y) e ∙ I .spared x y p q
-      ];
+    ];
     lists = I .lists;
     state = I .state;
   }
@@ -302,16 +302,16 @@ module _ {M : Mach} {start : M .Q} {σ : State M} (I : Inv start σ) where
     kept = I .kept;
     spared = I .spared;
     lists = λ j c. elim (cl .1 j) [
-        inl e ↦ subst (λ x. Listed (σ .run) (σ .place) x (l x)) (sym e) (subst (Listed (σ .run) (σ .place) i) (sym (cl .0)) grown)
+      | inl e ↦ subst (λ x. Listed (σ .run) (σ .place) x (l x)) (sym e) (subst (Listed (σ .run) (σ .place) i) (sym (cl .0)) grown)
       | inr e ↦ subst (Listed (σ .run) (σ .place) j) (sym e) (I .lists j c)
-      ];
+    ];
     state = λ j c. elim (cl .1 j) [
-        inl e ↦ subst (λ x. q x ≡ stepped M start (l x)) (sym e) run-on
+      | inl e ↦ subst (λ x. q x ≡ stepped M start (l x)) (sym e) run-on
       | inr e ↦ elim (cq .1 j) [
-            inl b ↦ subst (λ x. q x ≡ stepped M start (l x)) (sym b) run-on
-          | inr b ↦ b ∙ I .state j c ∙ ap (stepped M start) (sym e)
-          ]
-      ];
+        | inl b ↦ subst (λ x. q x ≡ stepped M start (l x)) (sym b) run-on
+        | inr b ↦ b ∙ I .state j c ∙ ap (stepped M start) (sym e)
+      ]
+    ];
   }
     where
       fact : (e : Entry) (p : ℕ) → Type 0
@@ -326,10 +326,14 @@ module _ {M : Mach} {start : M .Q} {σ : State M} (I : Inv start σ) where
           (b .1 ∙ ap Some (sym z), a .1)
 
       grown : Listed (σ .run) (σ .place) i (σ .executed i ++ (d ∷ []))
-      grown = (Xs, run, λ p e h. elim (nth-push (σ .executed i) d p e h) [
-          inl b ↦ before p e b
-        | inr b ↦ subst (λ x. fact x p) (sym (b .1)) (subst (fact d) (sym (b .0)) (here, cert))
-        ])
+      grown = (
+        Xs,
+        run,
+        λ p e h. elim (nth-push (σ .executed i) d p e h) [
+          | inl b ↦ before p e b
+          | inr b ↦ subst (λ x. fact x p) (sym (b .1)) (subst (fact d) (sym (b .0)) (here, cert))
+        ],
+      )
 
       run-on : q i ≡ stepped M start (l i)
       run-on = cq .0 ∙ ap (λ x. M .step x (d .operation)) (I .state i ci) ∙ sym (stepped-push M start (σ .executed i) d) ∙ ap (stepped M start) (sym (cl .0))
@@ -378,11 +382,11 @@ module _ {M : Mach} {start : M .Q} {σ : State M} (I : Inv start σ) where
       let k≡ : k ≡ i = cc in
       let a≡ : a ≡ r = cc in
       inl (λ o p.
-          let old = I .honest (summary k b) q d o p in
-          subst (λ x. entry b o ≤ entry x o) (sym a≡) (elim (cases-lt (entry r o) (entry b o)) [
-              inl gt ↦ absurd (h .1 o p .end (omega (arith, old .0)) (subst (λ x. CertifiedAt (σ .run) (σ .place) x o (suc (entry r o))) k≡ (old .1 (suc (entry r o)) (omega arith) (omega arith))))
-            | inr le ↦ le
-            ])))
+      let old = I .honest (summary k b) q d o p in
+      subst (λ x. entry b o ≤ entry x o) (sym a≡) (elim (cases-lt (entry r o) (entry b o)) [
+        | inl gt ↦ absurd (h .1 o p .end (omega (arith, old .0)) (subst (λ x. CertifiedAt (σ .run) (σ .place) x o (suc (entry r o))) k≡ (old .1 (suc (entry r o)) (omega arith) (omega arith))))
+        | inr le ↦ le
+      ])))
 
   -- the rows that a station keeps make a sound matrix
   kept-sound : (i : ℕ) (X : Matrix) → ((k : ℕ) → k < N (σ .run) → HasRow (σ .run) X k (σ .kept i k)) → Sound (σ .run) (σ .wire) X
@@ -391,9 +395,9 @@ module _ {M : Mach} {start : M .Q} {σ : State M} (I : Inv start σ) where
   -- a summary that is inconsistent with the kept one is no correct station's
   liar : (i j : ℕ) (a : Row) → In (summary j a) (σ .wire) → Stands (N (σ .run)) a (σ .kept i j) Inconsistent → Correct (σ .run) j → ⊥
   liar i j a h bad c = elim (I .kept i j) [
-      inl z ↦ bad (inl (λ o p. omega (arith, z o p)))
+    | inl z ↦ bad (inl (λ o p. omega (arith, z o p)))
     | inr q ↦ bad (I .chain j a (σ .kept i j) c h q)
-    ]
+  ]
 
 inv-step : {M : Mach} {start : M .Q} {σ τ : State M} → Inv start σ → Step σ τ → Inv start τ
 inv-step {σ = σ} I (submit o u S c l ch) =

@@ -3,3 +3,4 @@ pub mod Places
 pub mod Invariant
 pub mod Safety
 pub mod Speaking
+pub mod Executing

@@ -64,9 +64,9 @@ module _ {M : Mach} {start : M .Q} {σ : State M} (I : Inv start σ) where
       let m = most-outside f Rows (σ .run .faulty) (rows-least f X (e .origin) (e .sequence) (I .fit .faults .1) (b .3 .2)) (I .fit .few) in
       at-least (f + 1) (λ k. (named (σ .run .faulty) k ≡ false) × Rows k) (λ k. Correct (σ .run) k × CertificateFor (σ .run) (σ .place) k e)
       (λ k y.
-          let w = reaches I X k (e .origin) (e .sequence) sound (y .1 .0, y .0) (b .0) (b .1) (y .1 .1) in
-          let z = full-once I k i (word (e .origin) (e .sequence)) (op (w .0)) (op (e .operation)) (w .1) (x .1) in
-          ((y .1 .0, y .0), subst (λ v. Full (σ .run) (σ .place) k (word (e .origin) (e .sequence)) v) z (w .1))) m
+      let w = reaches I X k (e .origin) (e .sequence) sound (y .1 .0, y .0) (b .0) (b .1) (y .1 .1) in
+      let z = full-once I k i (word (e .origin) (e .sequence)) (op (w .0)) (op (e .operation)) (w .1) (x .1) in
+      ((y .1 .0, y .0), subst (λ v. Full (σ .run) (σ .place) k (word (e .origin) (e .sequence)) v) z (w .1))) m
 
   submitted : (i p : ℕ) (e : Entry) → Correct (σ .run) i → nth (σ .executed i) p ≡ Some e → Correct (σ .run) (e .origin)
       → Submitted (σ .submitted) (e .origin) (e .sequence) (e .operation)
@@ -76,9 +76,9 @@ module _ {M : Mach} {start : M .Q} {σ : State M} (I : Inv start σ) where
       let y = holds-spot (σ .run) (σ .place) i t (op (e .operation)) (e .origin) x in
       own-submitted (σ .submitted) (σ .proposed) (e .origin) (e .sequence) (e .operation)
       (elim (I .honest (say (e .origin) t (op (e .operation))) (I .source i t (e .origin) (op (e .operation)) y) co) [
-          inl q ↦ q .1
+        | inl q ↦ q .1
         | inr q ↦ absurd (q .0 refl)
-        ])
+      ])
 
 pub safe : {M : Mach} → Safe M
 safe {M} start σ h =

@@ -63,8 +63,7 @@ module _ (b : ℕ) (low : b ≤ 1) where
 
 pub two-faced : {M : Mach} → TwoFaced M
 two-faced {M} start =
-    let σ : State M = send (say 0 (vote 1) (mat (first 0))) (fresh r1 start) in
-    (
+    let σ : State M = send (say 0 (vote 1) (mat (first 0))) (fresh r1 start) in (
       send (say 0 (vote 1) (mat (first 1))) σ,
       (fresh r1 start, fresh-opened r1 start fit1, step (step same (speak (say 0 (vote 1) (mat (first 0))) (may-say 0 (lit≤ tt) []))) (speak (say 0 (vote 1) (mat (first 1))) (may-say 1 (lit≤ tt) (σ .wire)))),
       refl,

@@ -2,7 +2,7 @@
 // of the calls, for every machine.
 ghost use Prim.Native.Nat.{_+_};
 ghost use Rattle.model.specs.Quorums.{quorum, stations};
-ghost use Rattle.protocol.specs.Claims.{Comparable, Lasting, OneMatrix, OneOperation, Safe, TwoFaced};
+ghost use Rattle.protocol.specs.Claims.{Comparable, Executes, Lasting, OneMatrix, OneOperation, Safe, TwoFaced};
 ghost use Rattle.protocol.specs.States.{Mach};
 ghost use mathlib.Core.Path.{_≡_};
 use model::Machine;
@@ -40,6 +40,7 @@ pub fn what_lasts<M: Machine>(_machine: &M, watch: Watch) -> u8
 // How many places a commit needs to be sent: 2f + 1.
 pub fn runs_exist<M: Machine>(_machine: &M, watch: Watch) -> u8
     ensures number { λ r. ⌜ r ≡ quorum (watch .faults) ⌝ }
+    ensures executes { λ _. ⌜ Executes (record { Q = M·Machine .State; step = M·Machine .step }) ⌝ }
     ensures liar { λ _. ⌜ TwoFaced (record { Q = M·Machine .State; step = M·Machine .step }) ⌝ }
 {
     watch.quorum()
