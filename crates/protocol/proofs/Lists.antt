@@ -59,9 +59,14 @@ module _ {A : Type 0} where
   same-lists (x ∷ xs) (y ∷ ys) l h =
       let e = h 0 x y refl refl in let t = same-lists xs ys (omega arith) (λ p. h (suc p)) in cc
 
--- what stands at each position of a list stands there in another
-pub beginning : {A B : Type 0} (g : A → B) (xs : List A) (ys : List B) → ((p : ℕ) (x : A) → nth xs p ≡ Some x → nth ys p ≡ Some (g x)) → Beginning (map g xs) ys
-beginning g [] ys h = (ys, refl)
-beginning g (x ∷ xs) [] h = absurd (never (h 0 x refl))
-beginning g (x ∷ xs) (y ∷ ys) h =
-    let e = h 0 x refl in let r = beginning g xs ys (λ p. h (suc p)) in let t = r .1 in (r .0, cc)
+  -- what stands at each position of a list stands there in another
+  pub beginning : (xs ys : List A) → ((p : ℕ) (x : A) → nth xs p ≡ Some x → nth ys p ≡ Some x) → Beginning xs ys
+  beginning [] ys h = (ys, refl)
+  beginning (x ∷ xs) [] h = absurd (never (h 0 x refl))
+  beginning (x ∷ xs) (y ∷ ys) h =
+      let e = h 0 x refl in let r = beginning xs ys (λ p. h (suc p)) in let t = r .1 in (r .0, cc)
+
+pub nth-map : {A B : Type 0} (g : A → B) (xs : List A) (p : ℕ) (y : B) → nth (map g xs) p ≡ Some y → (x : A) × (nth xs p ≡ Some x) × (g x ≡ y)
+nth-map g [] p y h = absurd (never h)
+nth-map g (x ∷ xs) zero y h = (x, refl, cc)
+nth-map g (x ∷ xs) (suc p) y h = nth-map g xs p y h

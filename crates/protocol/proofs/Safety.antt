@@ -1,11 +1,13 @@
 -- The claims, from what holds in every reached state.
 use Prim.Native.Nat.{ℕ, suc, _+_, _≤_, _<_}
 use mathlib.Core.Bool.{false}
-use mathlib.Core.List.{List}
+use mathlib.Core.List.{List, [], map}
 use mathlib.Core.Logic.{_⊎_, inl, inr, _≢_}
 use mathlib.Core.Path.{_≡_, refl, sym, ap, subst, _∙_}
-use lib.ListN.{length}
+use lib.ListN.{length, getD}
 use native.Mathlib.Omega.{arith}
+use Rattle.std.proofs.shelf.Maps.{nth-getD}
+use Rattle.std.proofs.shelf.Tests.{cases-lt}
 use Rattle.std.specs.Finite.{nth}
 use Rattle.std.specs.declared.option.Option.the-variants.{Some, None}
 use Rattle.model.specs.Sets.{named}
@@ -14,12 +16,12 @@ use Rattle.model.proofs.Meeting.{most-outside}
 use Rattle.order.specs.Columns.{Matrix, cell}
 use Rattle.order.specs.Orders.{order}
 use Rattle.order.specs.declared.key.Key.{Key}
-use Rattle.order.proofs.Sequence.{nth-in, backed, rows-least}
-use Rattle.protocol.specs.States.{N, Correct, Topic, word, vote, commit, Value, op, mat, say, head, Spot, spot, Places, Full, CertificateAt, Entry, keyOf, Mach, stepped, State, Submitted}
+use Rattle.order.proofs.Sequence.{nth-in, backed, rows-least, begins}
+use Rattle.protocol.specs.States.{N, Correct, Topic, word, vote, commit, Value, op, mat, say, head, Spot, spot, Places, Full, CertificateAt, Unbroken, Whole, Entry, keyOf, Mach, stepped, State, Submitted}
 use Rattle.protocol.specs.Steps.{Changed, places, Echoes, echo, still, Commits, commits, quiet, Step, Later, same, step}
 use Rattle.protocol.specs.Steps.Step.{submit, summarise, propose, speak, take-word, take-vote, take-commit, again, another, newer, older, inconsistent, execute}
-use Rattle.protocol.specs.Claims.{Claims, Safe, OneOperation, OneMatrix, Lasting, Comparable}
-use Rattle.protocol.proofs.Lists.{never, in-nth, same-lists, beginning}
+use Rattle.protocol.specs.Claims.{Beginning, Claims, Safe, OneOperation, OneMatrix, Lasting, Comparable}
+use Rattle.protocol.proofs.Lists.{never, in-nth, nth-lt, nth-old, nth-map, same-lists, beginning}
 use Rattle.protocol.proofs.Places.{Ext, at-least, holds-spot}
 use Rattle.protocol.proofs.Invariant.{Inv, invariant, extends, own, own-submitted, CertificateFor, full-once, ordered-once, runs-agree, ordered-sound, reaches}
 
@@ -80,13 +82,49 @@ module _ {M : Mach} {start : M .Q} {σ : State M} (I : Inv start σ) where
         | inr q ↦ absurd (q .0 refl)
       ])
 
+  -- in the order of the matrices Xs stand the entries that station i has executed
+  begun : (i : ℕ) (Xs : List Matrix)
+      → ((p : ℕ) (e : Entry) → nth (σ .executed i) p ≡ Some e → nth (order (σ .run .f) (σ .run .limit) Xs) p ≡ Some (keyOf e))
+      → Beginning (map keyOf (σ .executed i)) (order (σ .run .f) (σ .run .limit) Xs)
+  begun i Xs h =
+      beginning (map keyOf (σ .executed i)) (order (σ .run .f) (σ .run .limit) Xs)
+      (λ p x q. let r = nth-map keyOf (σ .executed i) p x q in h p (r .0) (r .1) ∙ ap Some (r .2))
+
+  -- an unbroken run of ordered proposals is the beginning of the whole one
+  front : (i : ℕ) (Ys Xs : List Matrix) → Unbroken (σ .run) (σ .place) i Ys → Whole (σ .run) (σ .place) i Xs → Beginning Ys Xs
+  front i Ys Xs run (all, end) = beginning Ys Xs at
+    where
+      short : length Ys ≤ length Xs
+      short = elim (cases-lt (length Xs) (length Ys)) [
+          inl l ↦ absurd (end (getD Ys (length Xs) []) (run (length Xs) (getD Ys (length Xs) []) (nth-getD Ys (length Xs) [] l)))
+        | inr l ↦ l
+        ]
+
+      at : (n : ℕ) (Y : Matrix) → nth Ys n ≡ Some Y → nth Xs n ≡ Some Y
+      at n Y h =
+          let l : n < length Xs = omega (arith, nth-lt Ys n Y h, short) in
+          let e = nth-getD Xs n [] l in
+          e ∙ ap Some (ordered-once I i i (suc n) (getD Xs n []) Y (all n (getD Xs n []) e) (run n Y h))
+
+  whole : (i : ℕ) (Xs : List Matrix) → Correct (σ .run) i → Whole (σ .run) (σ .place) i Xs
+      → Beginning (map keyOf (σ .executed i)) (order (σ .run .f) (σ .run .limit) Xs)
+  whole i Xs c w =
+      let a = I .lists i c in
+      let b = front i (a .0) Xs (a .1) w in
+      let r = begins (σ .run .f) (σ .run .limit) (a .0) (b .0) in
+      begun i Xs
+      (λ p e q.
+          subst (λ Zs. nth (order (σ .run .f) (σ .run .limit) Zs) p ≡ Some (keyOf e)) (sym (b .1))
+          (subst (λ ks. nth ks p ≡ Some (keyOf e)) (sym (r .1)) (nth-old (order (σ .run .f) (σ .run .limit) (a .0)) (r .0) p (keyOf e) (a .2 p e q .0))))
+
 pub safe : {M : Mach} → Safe M
 safe {M} start σ h =
     let I = invariant h in
     record {
       agree = agree I;
       equal = λ i j c d l. I .state i c ∙ ap (stepped M start) (same-lists (σ .executed i) (σ .executed j) l (λ p x y a b. agree I i j p x y c d a b)) ∙ sym (I .state j d);
-      begins = λ i c. let a = I .lists i c in (a .0, a .1, beginning keyOf (σ .executed i) (order (σ .run .f) (σ .run .limit) (a .0)) (λ p e q. a .2 p e q .0));
+      begins = λ i c. let a = I .lists i c in (a .0, a .1, begun I i (a .0) (λ p e q. a .2 p e q .0));
+      whole = whole I;
       state = I .state;
       held = held I;
       submitted = submitted I;

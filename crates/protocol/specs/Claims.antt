@@ -14,7 +14,7 @@ use Rattle.order.specs.Laws.{In}
 use Rattle.order.specs.Orders.{order}
 use Rattle.order.specs.Rows.{Row, Consistent}
 use Rattle.order.specs.declared.key.Key.{Key}
-use Rattle.protocol.specs.States.{N, Correct, Topic, vote, Value, mat, Message, say, summary, Spot, CertificateAt, OrderedAt, Unbroken, Entry, keyOf, Mach, stepped, State, Submitted}
+use Rattle.protocol.specs.States.{N, Correct, Topic, vote, Value, mat, Message, say, summary, Proper, Spot, CertificateAt, OrderedAt, Unbroken, Whole, Entry, keyOf, Mach, stepped, State, Submitted}
 use Rattle.protocol.specs.Steps.{Step, Opened, Later, Reached}
 
 -- xs is a beginning of ys
@@ -30,6 +30,9 @@ module _ {M : Mach} where
     -- a correct station's list is a beginning of the order that its ordered proposals give
     pub begins : (i : ℕ) → Correct (σ .run) i
         → (Xs : List Matrix) × Unbroken (σ .run) (σ .place) i Xs × Beginning (map keyOf (σ .executed i)) (order (σ .run .f) (σ .run .limit) Xs)
+    -- and so of the order that all of them give, as far as they are ordered without a gap
+    pub whole : (i : ℕ) (Xs : List Matrix) → Correct (σ .run) i → Whole (σ .run) (σ .place) i Xs
+        → Beginning (map keyOf (σ .executed i)) (order (σ .run .f) (σ .run .limit) Xs)
     -- its machine's state is the starting state stepped through its list
     pub state : (i : ℕ) → Correct (σ .run) i → σ .machine i ≡ stepped M start (σ .executed i)
     -- every entry of a correct station's list is held under certificate by at least f + 1 correct stations
@@ -65,6 +68,10 @@ Lasting M = (σ τ : State M) → Later σ τ → (x : Spot) (v : Value) → σ 
 abbrev pub Comparable : Mach → Type 0
 Comparable M = (start : M .Q) (σ : State M) → Reached start σ → (j : ℕ) (a b : Row) → Correct (σ .run) j
     → In (summary j a) (σ .wire) → In (summary j b) (σ .wire) → Consistent (N (σ .run)) a b
+
+-- all that is on the wire is within the run's bounds
+abbrev pub Bounded : Mach → Type 0
+Bounded M = (start : M .Q) (σ : State M) → Reached start σ → (m : Message) → In m (σ .wire) → Proper (σ .run) m
 
 -- ---- that the rules can be met
 

@@ -130,6 +130,10 @@ OrderedAt r P i n X = Ordered (r .f) (seen r P i (commit n)) (mat X)
 abbrev pub Unbroken : Run → Places → ℕ → List Matrix → Type 0
 Unbroken r P i Xs = (n : ℕ) (X : Matrix) → nth Xs n ≡ Some X → OrderedAt r P i (suc n) X
 
+-- and no further number is
+abbrev pub Whole : Run → Places → ℕ → List Matrix → Type 0
+Whole r P i Xs = Unbroken r P i Xs × ((X : Matrix) → OrderedAt r P i (suc (length Xs)) X → ⊥)
+
 -- ---- rows
 
 -- k is the longest unbroken run of certified sequences of origin o, from 1
