@@ -205,7 +205,7 @@ module _ {M : Mach} {start : M .Q} {σ : State M} (I : Inv start σ) where
     state = I .state;
   }
 
-  inv-put : (i : ℕ) (t : Topic) (j : ℕ) (v : Value) (P : Places) → Taken σ i t j v P → Inv start (places P σ)
+  pub inv-put : (i : ℕ) (t : Topic) (j : ℕ) (v : Value) (P : Places) → Taken σ i t j v P → Inv start (places P σ)
   inv-put i t j v P h =
       let ext = extends (σ .place) P (spot i t j) v (h .filled) (h .empty) in
       record {
@@ -355,7 +355,7 @@ module _ {M : Mach} {start : M .Q} {σ : State M} (I : Inv start σ) where
       (λ n X b. unlike-word i (σ .run .leader) o s n v (mat X) b) (λ k a b e c q. unlike i k (word o s) v a e)
   inv-echo-word i o s j v h (still e) = I
 
-  inv-echo-vote : (i n j : ℕ) (v : Value) {τ : State M} → σ .place (spot i (vote n) j) ≡ Some v → Echoes σ i (vote n) j v τ → Inv start τ
+  pub inv-echo-vote : (i n j : ℕ) (v : Value) {τ : State M} → σ .place (spot i (vote n) j) ≡ Some v → Echoes σ i (vote n) j v τ → Inv start τ
   inv-echo-vote i n j v h (echo e d) =
       inv-send (say i (vote n) v) (λ c. inr (λ q. d (q ∙ sym e), subst (λ x. σ .place (spot i (vote n) x) ≡ Some v) e h))
       (λ m X b. let z : i ≡ σ .run .leader = cc in absurd (d (z ∙ sym e))) (λ k a b e c q. unlike i k (vote n) v a e)
@@ -428,7 +428,7 @@ zero-row zero o = refl
 zero-row (suc n) zero = refl
 zero-row (suc n) (suc o) = zero-row n o
 
-inv-opened : {M : Mach} {start : M .Q} {σ : State M} → Opened start σ → Inv start σ
+pub inv-opened : {M : Mach} {start : M .Q} {σ : State M} → Opened start σ → Inv start σ
 inv-opened {M} {start} {σ} h = record {
   fit = h .fit;
   source = λ i t j v e. absurd (never (sym (h .place (spot i t j)) ∙ e));
@@ -444,7 +444,7 @@ inv-opened {M} {start} {σ} h = record {
     bare : (m : Message) → In m (σ .wire) → ⊥
     bare m q = subst (In m) (h .wire) q
 
-inv-later : {M : Mach} {start : M .Q} {σ τ : State M} → Inv start σ → Later σ τ → Inv start τ
+pub inv-later : {M : Mach} {start : M .Q} {σ τ : State M} → Inv start σ → Later σ τ → Inv start τ
 inv-later I same = I
 inv-later I (step h s) = inv-step (inv-later I h) s
 

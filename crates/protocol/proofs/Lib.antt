@@ -2,5 +2,6 @@ pub mod Lists
 pub mod Places
 pub mod Invariant
 pub mod Safety
+pub mod Bounds
 pub mod Speaking
 pub mod Executing
