@@ -96,9 +96,9 @@ module _ {M : Mach} {start : M .Q} {σ : State M} (I : Inv start σ) where
     where
       short : length Ys ≤ length Xs
       short = elim (cases-lt (length Xs) (length Ys)) [
-          inl l ↦ absurd (end (getD Ys (length Xs) []) (run (length Xs) (getD Ys (length Xs) []) (nth-getD Ys (length Xs) [] l)))
+        | inl l ↦ absurd (end (getD Ys (length Xs) []) (run (length Xs) (getD Ys (length Xs) []) (nth-getD Ys (length Xs) [] l)))
         | inr l ↦ l
-        ]
+      ]
 
       at : (n : ℕ) (Y : Matrix) → nth Ys n ≡ Some Y → nth Xs n ≡ Some Y
       at n Y h =
@@ -114,8 +114,8 @@ module _ {M : Mach} {start : M .Q} {σ : State M} (I : Inv start σ) where
       let r = begins (σ .run .f) (σ .run .limit) (a .0) (b .0) in
       begun i Xs
       (λ p e q.
-          subst (λ Zs. nth (order (σ .run .f) (σ .run .limit) Zs) p ≡ Some (keyOf e)) (sym (b .1))
-          (subst (λ ks. nth ks p ≡ Some (keyOf e)) (sym (r .1)) (nth-old (order (σ .run .f) (σ .run .limit) (a .0)) (r .0) p (keyOf e) (a .2 p e q .0))))
+      subst (λ Zs. nth (order (σ .run .f) (σ .run .limit) Zs) p ≡ Some (keyOf e)) (sym (b .1))
+      (subst (λ ks. nth ks p ≡ Some (keyOf e)) (sym (r .1)) (nth-old (order (σ .run .f) (σ .run .limit) (a .0)) (r .0) p (keyOf e) (a .2 p e q .0))))
 
 pub safe : {M : Mach} → Safe M
 safe {M} start σ h =
