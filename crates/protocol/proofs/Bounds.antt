@@ -1,18 +1,17 @@
 -- All that is on the wire is within the run's bounds.
-use Prim.Native.Nat.{ℕ, zero, suc, _+_, _*_, _/_, _%_, _≤_, _<_}
+use Prim.Native.Nat.{ℕ, suc, _+_, _*_, _/_, _%_, _≤_, _<_}
 use mathlib.Core.List.{List, [], _∷_, _++_}
-use mathlib.Core.Logic.{_⊎_, inl, inr}
-use mathlib.Core.Path.{_≡_, refl, sym, ap, subst, _∙_}
+use mathlib.Core.Logic.{inl, inr}
+use mathlib.Core.Path.{sym, subst}
 use lib.ListN.{length}
 use native.Mathlib.Nat.{div-add-mod', mod-lt}
 use native.Mathlib.Omega.{arith}
 use Rattle.std.proofs.shelf.Bits.{div-below}
-use Rattle.model.specs.Quorums.{Holds}
-use Rattle.order.specs.Columns.{Matrix, cell}
+use Rattle.order.specs.Columns.{Matrix}
 use Rattle.order.specs.Laws.{In}
-use Rattle.order.specs.Rows.{Row, entry}
-use Rattle.protocol.specs.States.{Run, N, Topic, word, vote, commit, Value, op, mat, Message, say, summary, Entries, ProperWord, Proper, spot, HasRow, Mach, State}
-use Rattle.protocol.specs.Steps.{send, places, Taken, Echoes, echo, still, Commits, commits, quiet, Step, Opened, Later, same, step}
+use Rattle.order.specs.Rows.{entry}
+use Rattle.protocol.specs.States.{Run, N, Topic, word, vote, commit, Value, op, mat, Message, say, summary, Proper, HasRow, Mach, State}
+use Rattle.protocol.specs.Steps.{Echoes, echo, still, Commits, commits, quiet, Step, Later, same, step}
 use Rattle.protocol.specs.Steps.Step.{submit, summarise, propose, speak, take-word, take-vote, take-commit, again, another, newer, older, inconsistent, execute}
 use Rattle.protocol.specs.Claims.{Bounded}
 use Rattle.protocol.proofs.Lists.{in-push}
@@ -77,4 +76,4 @@ later-low I all same = all
 later-low I all (step l s) = step-low (inv-later I l) (later-low I all l) s
 
 pub bounded : {M : Mach} → Bounded M
-bounded start σ (ο, o, l) = later-low (inv-opened o) (λ m h. absurd (subst (In m) (o .wire) h)) l
+bounded start σ (first, o, l) = later-low (inv-opened o) (λ m h. absurd (subst (In m) (o .wire) h)) l

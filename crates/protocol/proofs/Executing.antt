@@ -1,19 +1,17 @@
 -- A run in which every station executes: f = 1, leader 0, nobody faulty, and station 1 submits one operation.
-use Prim.Native.Nat.{ℕ, zero, suc, _+_, _*_, _≤_, _<_}
+use Prim.Native.Nat.{ℕ, zero, suc, _≤_, _<_}
 use mathlib.Core.Bool.{Bool, true, false, cond, _&&_}
-use mathlib.Core.List.{List, [], _∷_, _++_}
+use mathlib.Core.List.{[], _∷_}
 use mathlib.Core.Logic.{_⊎_, inl, inr, _≢_}
 use mathlib.Core.Path.{_≡_, refl, sym, ap, subst, _∙_}
 use lib.Count.{ones}
 use lib.Dec.{eqb, lit<, lit≤}
-use lib.ListN.{length}
 use native.Mathlib.Omega.{arith}
 use Rattle.std.proofs.shelf.Tests.{and-parts, and-from, eqb-true, eq-eqb, ne-eqb, both-ways}
 use Rattle.std.specs.Finite.{nth}
-use Rattle.std.specs.declared.option.Option.{Option}
 use Rattle.std.specs.declared.option.Option.the-variants.{Some, None}
 use Rattle.model.specs.Sets.{named, Names}
-use Rattle.model.specs.Quorums.{AtLeast, Holds, Certificate}
+use Rattle.model.specs.Quorums.{AtLeast, Holds}
 use Rattle.model.proofs.Members.{within-from-below, below-from-within, ones-outside, named-none, ones-none}
 use Rattle.order.specs.Columns.{Matrix, cell}
 use Rattle.order.specs.Laws.{In, Stands}
@@ -21,8 +19,8 @@ use Rattle.order.specs.Orders.{order, key}
 use Rattle.order.specs.Rows.{Row, entry}
 use Rattle.order.specs.declared.standing.Standing.the-variants.{Newer}
 use Rattle.order.proofs.Sequence.{nth-in}
-use Rattle.protocol.specs.States.{Run, N, Fit, Correct, Topic, word, vote, commit, Value, op, mat, Message, say, summary, Spot, spot, Places, seen, Full, CertificateAt, Prepared, Unbroken, Longest, Summary, HasRow, Entry, Mach, State}
-use Rattle.protocol.specs.Steps.{Changed, Changed₂, send, places, submits, proposes, keeps, executes, Taken, Echoes, echo, still, Commits, commits, quiet, Step, Opened, Later, same, step}
+use Rattle.protocol.specs.States.{Run, Fit, Correct, Topic, word, vote, commit, Value, op, mat, say, summary, Spot, spot, Places, seen, Full, CertificateAt, Prepared, Unbroken, Longest, Summary, HasRow, Entry, Mach, State}
+use Rattle.protocol.specs.Steps.{Changed, Changed₂, send, places, submits, proposes, keeps, executes, Taken, echo, still, commits, quiet, Later, same, step}
 use Rattle.protocol.specs.Steps.Step.{submit, summarise, propose, take-word, take-vote, take-commit, newer, execute}
 use Rattle.protocol.specs.Claims.{Executes}
 use Rattle.protocol.proofs.Invariant.{zero-row}
@@ -209,17 +207,17 @@ module _ {M : Mach} where
   taken σ i t j v c h e = record { at = c; heard = h; empty = e; filled = changed eqSpot (σ .place) (spot i t j) (Some v) spots (spot-self (spot i t j)) }
 
   -- a station takes the acks of 0 and 2 for an operation of 1
-  acks : (ο σ : State M) (i : ℕ) (v : Value) → Later ο σ → Correct (σ .run) i → In (say 0 T1 v) (σ .wire) → In (say 2 T1 v) (σ .wire)
-      → σ .place (spot i T1 0) ≡ None → σ .place (spot i T1 2) ≡ None → Later ο (put i T1 2 v (put i T1 0 v σ))
-  acks ο σ i v l c h0 h2 e0 e2 =
+  acks : (first σ : State M) (i : ℕ) (v : Value) → Later first σ → Correct (σ .run) i → In (say 0 T1 v) (σ .wire) → In (say 2 T1 v) (σ .wire)
+      → σ .place (spot i T1 0) ≡ None → σ .place (spot i T1 2) ≡ None → Later first (put i T1 2 v (put i T1 0 v σ))
+  acks first σ i v l c h0 h2 e0 e2 =
       step (step l (take-word i 1 1 0 v _ (taken σ i T1 0 v c h0 e0) (still (not-same 0 1 refl))))
       (take-word i 1 1 2 v _ (taken (put i T1 0 v σ) i T1 2 v c h2 e2) (still (not-same 2 1 refl)))
 
   -- and the commits of 0, 1 and 2
-  three : (ο σ : State M) (i : ℕ) (v : Value) → Later ο σ → Correct (σ .run) i → In (say 0 (commit 1) v) (σ .wire) → In (say 1 (commit 1) v) (σ .wire) → In (say 2 (commit 1) v) (σ .wire)
+  three : (first σ : State M) (i : ℕ) (v : Value) → Later first σ → Correct (σ .run) i → In (say 0 (commit 1) v) (σ .wire) → In (say 1 (commit 1) v) (σ .wire) → In (say 2 (commit 1) v) (σ .wire)
       → σ .place (spot i (commit 1) 0) ≡ None → σ .place (spot i (commit 1) 1) ≡ None → σ .place (spot i (commit 1) 2) ≡ None
-      → Later ο (put i (commit 1) 2 v (put i (commit 1) 1 v (put i (commit 1) 0 v σ)))
-  three ο σ i v l c h0 h1 h2 e0 e1 e2 =
+      → Later first (put i (commit 1) 2 v (put i (commit 1) 1 v (put i (commit 1) 0 v σ)))
+  three first σ i v l c h0 h1 h2 e0 e1 e2 =
       step (step (step l (take-commit i 1 0 v _ (taken σ i (commit 1) 0 v c h0 e0)))
       (take-commit i 1 1 v _ (taken (put i (commit 1) 0 v σ) i (commit 1) 1 v c h1 e1)))
       (take-commit i 1 2 v _ (taken (put i (commit 1) 1 v (put i (commit 1) 0 v σ)) i (commit 1) 2 v c h2 e2))

@@ -1,28 +1,28 @@
 -- What holds in every reached state.
-use Prim.Native.Nat.{ℕ, zero, suc, _+_, _*_, _≤_, _<_}
-use mathlib.Core.Bool.{true, false}
+use Prim.Native.Nat.{ℕ, zero, suc, _+_, _≤_, _<_}
+use mathlib.Core.Bool.{false}
 use mathlib.Core.List.{List, [], _∷_, _++_}
 use mathlib.Core.Logic.{_⊎_, inl, inr, _≢_}
 use mathlib.Core.Path.{_≡_, refl, sym, ap, subst, _∙_}
 use lib.ListN.{length, replicate}
 use native.Mathlib.Nat.{le-of-eq}
 use native.Mathlib.Omega.{arith}
-use Rattle.std.proofs.shelf.Tests.{cases-lt, cases-eq, both-ways}
+use Rattle.std.proofs.shelf.Tests.{cases-lt, both-ways}
 use Rattle.std.specs.Finite.{nth}
 use Rattle.std.specs.declared.option.Option.{Option}
 use Rattle.std.specs.declared.option.Option.the-variants.{Some, None}
 use Rattle.model.specs.Sets.{named, Names, joined}
-use Rattle.model.specs.Quorums.{Certificate, Holds, meant}
+use Rattle.model.specs.Quorums.{meant}
 use Rattle.model.proofs.Members.{joined-keeps, named-none}
 use Rattle.order.specs.Columns.{Matrix, cell}
 use Rattle.order.specs.Laws.{In, Stands}
 use Rattle.order.specs.Orders.{order}
-use Rattle.order.specs.Rows.{Row, entry, UpToDate, Consistent}
+use Rattle.order.specs.Rows.{Row, entry, Consistent}
 use Rattle.order.specs.declared.key.Key.{Key}
 use Rattle.order.specs.declared.standing.Standing.the-variants.{Inconsistent}
-use Rattle.order.proofs.Sequence.{in-left, nth-in, orders-agree}
-use Rattle.protocol.specs.States.{Run, N, Fit, Correct, Topic, word, vote, commit, Value, op, mat, Message, say, summary, head, speaker, Spot, spot, Places, seen, Full, CertificateAt, CertifiedAt, Prepared, OrderedAt, Unbroken}
-use Rattle.protocol.specs.States.{Longest, Summary, HasRow, ZeroRow, Sound, Entry, keyOf, Mach, stepped, State, Submitted}
+use Rattle.order.proofs.Sequence.{in-left, orders-agree}
+use Rattle.protocol.specs.States.{Run, N, Fit, Correct, Topic, word, vote, commit, Value, op, mat, Message, say, summary, head, spot, Places, Full, CertificateAt, CertifiedAt, OrderedAt, Unbroken}
+use Rattle.protocol.specs.States.{Summary, HasRow, ZeroRow, Sound, Entry, keyOf, Mach, stepped, State, Submitted}
 use Rattle.protocol.specs.Steps.{Changed, Changed₂, send, places, submits, proposes, keeps, accuses, executes, Speakable, Taken, Echoes, echo, still, Commits, commits, quiet, Step, Opened, Later, same, step, Reached}
 use Rattle.protocol.specs.Steps.Step.{submit, summarise, propose, speak, take-word, take-vote, take-commit, again, another, newer, older, inconsistent, execute}
 use Rattle.protocol.proofs.Lists.{never, nth-lt, nth-below, nth-push, nth-old, nth-new, in-push}
@@ -152,7 +152,7 @@ stepped-push M q (d ∷ ds) e = stepped-push M (M .step q (d .operation)) ds e
 module _ {M : Mach} {start : M .Q} {σ : State M} (I : Inv start σ) where
   -- ---- what follows from it
 
-  said-once : (j : ℕ) (t : Topic) (v w : Value) → Correct (σ .run) j → In (say j t v) (σ .wire) → In (say j t w) (σ .wire) → v ≡ w
+  pub said-once : (j : ℕ) (t : Topic) (v w : Value) → Correct (σ .run) j → In (say j t v) (σ .wire) → In (say j t w) (σ .wire) → v ≡ w
   said-once j t v w c a b =
       backed-once (σ .run) (σ .place) (own (σ .submitted) (σ .proposed)) j t v w (I .honest (say j t v) a c) (I .honest (say j t w) b c)
 
@@ -449,4 +449,4 @@ inv-later I same = I
 inv-later I (step h s) = inv-step (inv-later I h) s
 
 pub invariant : {M : Mach} {start : M .Q} {σ : State M} → Reached start σ → Inv start σ
-invariant (ο, o, l) = inv-later (inv-opened o) l
+invariant (first, o, l) = inv-later (inv-opened o) l

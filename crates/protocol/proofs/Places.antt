@@ -1,18 +1,14 @@
 -- Certificates and quorums over places, and that they last.
-use Prim.Native.Nat.{ℕ, zero, suc, _+_, _*_, _≤_, _<_}
-use mathlib.Core.Bool.{false}
-use mathlib.Core.List.{List, [], _∷_}
+use Prim.Native.Nat.{ℕ, zero, suc, _+_, _*_, _<_}
 use mathlib.Core.Logic.{_≢_}
 use mathlib.Core.Path.{_≡_, refl, sym, ap, subst, _∙_}
 use lib.ListN.{length, getD}
 use native.Mathlib.Omega.{arith}
 use Rattle.std.specs.declared.option.Option.{Option}
 use Rattle.std.specs.declared.option.Option.the-variants.{Some, None}
-use Rattle.model.specs.Sets.{named}
-use Rattle.model.specs.Quorums.{AtLeast, Holds, Certificate, Ordered, quorum, stations}
+use Rattle.model.specs.Quorums.{AtLeast, Holds, Ordered, quorum}
 use Rattle.model.proofs.Meeting.{holds-below, certificate-whole, shared-outside}
-use Rattle.order.specs.Columns.{Matrix}
-use Rattle.protocol.specs.States.{Run, N, Fit, Correct, Topic, Value, head, Spot, spot, Places, listed, seen, Full}
+use Rattle.protocol.specs.States.{Run, N, Fit, Correct, Topic, Value, head, spot, Places, listed, seen, Full}
 
 length-listed : {A : Type 0} (n : ℕ) (g : ℕ → A) → length (listed n g) ≡ n
 length-listed zero g = refl

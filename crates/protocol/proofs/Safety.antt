@@ -2,28 +2,27 @@
 use Prim.Native.Nat.{ℕ, suc, _+_, _≤_, _<_}
 use mathlib.Core.Bool.{false}
 use mathlib.Core.List.{List, [], map}
-use mathlib.Core.Logic.{_⊎_, inl, inr, _≢_}
+use mathlib.Core.Logic.{inl, inr}
 use mathlib.Core.Path.{_≡_, refl, sym, ap, subst, _∙_}
 use lib.ListN.{length, getD}
 use native.Mathlib.Omega.{arith}
 use Rattle.std.proofs.shelf.Maps.{nth-getD}
 use Rattle.std.proofs.shelf.Tests.{cases-lt}
 use Rattle.std.specs.Finite.{nth}
-use Rattle.std.specs.declared.option.Option.the-variants.{Some, None}
+use Rattle.std.specs.declared.option.Option.the-variants.{Some}
 use Rattle.model.specs.Sets.{named}
 use Rattle.model.specs.Quorums.{AtLeast}
 use Rattle.model.proofs.Meeting.{most-outside}
 use Rattle.order.specs.Columns.{Matrix, cell}
 use Rattle.order.specs.Orders.{order}
-use Rattle.order.specs.declared.key.Key.{Key}
 use Rattle.order.proofs.Sequence.{nth-in, backed, rows-least, begins}
-use Rattle.protocol.specs.States.{N, Correct, Topic, word, vote, commit, Value, op, mat, say, head, Spot, spot, Places, Full, CertificateAt, Unbroken, Whole, Entry, keyOf, Mach, stepped, State, Submitted}
-use Rattle.protocol.specs.Steps.{Changed, places, Echoes, echo, still, Commits, commits, quiet, Step, Later, same, step}
+use Rattle.protocol.specs.States.{N, Correct, Topic, word, vote, commit, Value, op, say, spot, Full, Unbroken, Whole, Entry, keyOf, Mach, stepped, State, Submitted}
+use Rattle.protocol.specs.Steps.{Echoes, echo, still, Commits, commits, quiet, Step, same, step}
 use Rattle.protocol.specs.Steps.Step.{submit, summarise, propose, speak, take-word, take-vote, take-commit, again, another, newer, older, inconsistent, execute}
-use Rattle.protocol.specs.Claims.{Beginning, Claims, Safe, OneOperation, OneMatrix, Lasting, Comparable}
-use Rattle.protocol.proofs.Lists.{never, in-nth, nth-lt, nth-old, nth-map, same-lists, beginning}
+use Rattle.protocol.specs.Claims.{Beginning, Safe, OneOperation, OneMatrix, OneVoice, Lasting, Comparable}
+use Rattle.protocol.proofs.Lists.{in-nth, nth-lt, nth-old, nth-map, same-lists, beginning}
 use Rattle.protocol.proofs.Places.{Ext, at-least, holds-spot}
-use Rattle.protocol.proofs.Invariant.{Inv, invariant, extends, own, own-submitted, CertificateFor, full-once, ordered-once, runs-agree, ordered-sound, reaches}
+use Rattle.protocol.proofs.Invariant.{Inv, invariant, extends, own-submitted, CertificateFor, said-once, full-once, ordered-once, runs-agree, ordered-sound, reaches}
 
 one-operation : {u v : ℕ} → op u ≡ op v → u ≡ v
 one-operation e = cc
@@ -138,6 +137,9 @@ one-certificate start σ h i j o s u v ci cj a b = one-operation (full-once (inv
 
 pub one-matrix : {M : Mach} → OneMatrix M
 one-matrix start σ h i j n X Y ci cj a b = ordered-once (invariant h) i j n X Y a b
+
+pub one-voice : {M : Mach} → OneVoice M
+one-voice start σ h = said-once (invariant h)
 
 pub comparable : {M : Mach} → Comparable M
 comparable start σ h = invariant h .chain

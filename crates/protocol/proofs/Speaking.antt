@@ -1,21 +1,20 @@
 -- A run in which a faulty leader speaks two different proposals under one number: f = 1, leader 0, who is faulty.
 use Prim.Native.Nat.{ℕ, zero, suc, _+_, _*_, _≤_, _<_}
-use mathlib.Core.Bool.{true, false}
-use mathlib.Core.List.{List, [], _∷_, _++_}
-use mathlib.Core.Logic.{_⊎_, inl, inr, _≢_}
-use mathlib.Core.Path.{_≡_, refl, sym, ap, subst, _∙_}
+use mathlib.Core.Bool.{true}
+use mathlib.Core.List.{List, [], _∷_}
+use mathlib.Core.Logic.{inl, inr}
+use mathlib.Core.Path.{_≡_, refl, subst}
 use lib.Count.{ones}
 use lib.Dec.{lit<, lit≤}
-use lib.ListN.{length, replicate}
+use lib.ListN.{replicate}
 use native.Mathlib.Omega.{arith}
 use Rattle.std.specs.declared.option.Option.the-variants.{None}
 use Rattle.std.proofs.shelf.Tests.{both-ways}
 use Rattle.model.proofs.Members.{within-from-below}
 use Rattle.order.specs.Columns.{Matrix, cell}
-use Rattle.order.specs.Laws.{In}
 use Rattle.order.specs.Rows.{entry}
-use Rattle.protocol.specs.States.{Run, Fit, Correct, vote, mat, Message, say, Sound, Entries, Mach, State}
-use Rattle.protocol.specs.Steps.{send, Speakable, Opened, Later, same, step}
+use Rattle.protocol.specs.States.{Run, Fit, vote, mat, Message, say, Sound, Mach, State}
+use Rattle.protocol.specs.Steps.{send, Speakable, Opened, same, step}
 use Rattle.protocol.specs.Steps.Step.{speak}
 use Rattle.protocol.specs.Claims.{TwoFaced}
 use Rattle.protocol.proofs.Invariant.{zero-row}

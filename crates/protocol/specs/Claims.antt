@@ -1,8 +1,8 @@
 -- What is claimed of every reached state.
-use Prim.Native.Nat.{ℕ, _+_, suc}
+use Prim.Native.Nat.{ℕ, _+_}
 use mathlib.Core.Bool.{true, false}
 use mathlib.Core.List.{List, [], _∷_, _++_, map}
-use mathlib.Core.Logic.{_⊎_, _≢_}
+use mathlib.Core.Logic.{_≢_}
 use mathlib.Core.Path.{_≡_}
 use lib.ListN.{length}
 use Rattle.std.specs.Finite.{nth}
@@ -13,9 +13,8 @@ use Rattle.order.specs.Columns.{Matrix}
 use Rattle.order.specs.Laws.{In}
 use Rattle.order.specs.Orders.{order}
 use Rattle.order.specs.Rows.{Row, Consistent}
-use Rattle.order.specs.declared.key.Key.{Key}
 use Rattle.protocol.specs.States.{N, Correct, Topic, vote, Value, mat, Message, say, summary, Proper, Spot, CertificateAt, OrderedAt, Unbroken, Whole, Entry, keyOf, Mach, stepped, State, Submitted}
-use Rattle.protocol.specs.Steps.{Step, Opened, Later, Reached}
+use Rattle.protocol.specs.Steps.{Later, Reached}
 
 -- xs is a beginning of ys
 abbrev pub Beginning : {A : Type 0} → List A → List A → Type 0
@@ -59,6 +58,11 @@ OneOperation M = (start : M .Q) (σ : State M) → Reached start σ → (i j o s
 abbrev pub OneMatrix : Mach → Type 0
 OneMatrix M = (start : M .Q) (σ : State M) → Reached start σ → (i j n : ℕ) (X Y : Matrix) → Correct (σ .run) i → Correct (σ .run) j
     → OrderedAt (σ .run) (σ .place) i n X → OrderedAt (σ .run) (σ .place) j n Y → X ≡ Y
+
+-- a correct station never says two different words on one topic
+abbrev pub OneVoice : Mach → Type 0
+OneVoice M = (start : M .Q) (σ : State M) → Reached start σ → (j : ℕ) (t : Topic) (v w : Value) → Correct (σ .run) j
+    → In (say j t v) (σ .wire) → In (say j t w) (σ .wire) → v ≡ w
 
 -- a place never changes once it is filled
 abbrev pub Lasting : Mach → Type 0

@@ -8,9 +8,9 @@ use lib.Count.{ones}
 use lib.ListN.{length}
 use Rattle.std.specs.Finite.{nth}
 use Rattle.std.specs.declared.option.Option.{Option}
-use Rattle.std.specs.declared.option.Option.the-variants.{Some, None}
+use Rattle.std.specs.declared.option.Option.the-variants.{Some}
 use Rattle.model.specs.Sets.{named, Within}
-use Rattle.model.specs.Quorums.{stations, Certificate, Certified, Ordered}
+use Rattle.model.specs.Quorums.{stations, Certificate, Ordered}
 use Rattle.order.specs.Columns.{Matrix, cell}
 use Rattle.order.specs.Laws.{In}
 use Rattle.order.specs.Orders.{key}

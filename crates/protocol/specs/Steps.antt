@@ -1,11 +1,10 @@
 -- What may happen in a run. A call that is declined changes nothing.
-use Prim.Native.Nat.{ℕ, suc, _*_, _<_, _≤_}
+use Prim.Native.Nat.{ℕ, suc, _*_, _<_}
 use mathlib.Core.List.{List, [], _∷_, _++_}
 use mathlib.Core.Logic.{_⊎_, _≢_}
 use mathlib.Core.Path.{_≡_}
 use lib.ListN.{length, replicate}
 use Rattle.std.specs.Finite.{nth}
-use Rattle.std.specs.declared.option.Option.{Option}
 use Rattle.std.specs.declared.option.Option.the-variants.{Some, None}
 use Rattle.model.specs.Sets.{Names, joined}
 use Rattle.order.specs.Columns.{Matrix}
@@ -77,29 +76,41 @@ module _ {M : Mach} where
   -- ---- the steps
 
   pub data Step (σ : State M) : State M → Type 0 where
+    -- A correct origin submits u: it sends a request under its next number, which is at most the watch length.
     submit : (o u : ℕ) (S : ℕ → List ℕ) → Correct (σ .run) o → length (σ .submitted o) < σ .run .limit
         → Changed (σ .submitted) S o (σ .submitted o ++ (u ∷ []))
         → Step σ (send (say o (word o (suc (length (σ .submitted o)))) (op u)) (submits S σ))
+    -- A correct station sends, for each origin, the longest unbroken run of certified sequences.
     summarise : (i : ℕ) (a : Row) → Correct (σ .run) i → Summary (σ .run) (σ .place) i a → Step σ (send (summary i a) σ)
+    -- A correct leader sends the rows that it keeps, under its next number, which is at most the watch length.
     propose : (X : Matrix) → Correct (σ .run) (σ .run .leader) → length (σ .proposed) < σ .run .limit
         → length X ≡ N (σ .run) * N (σ .run) → ((k : ℕ) → k < N (σ .run) → HasRow (σ .run) X k (σ .kept (σ .run .leader) k))
         → Step σ (send (say (σ .run .leader) (vote (suc (length (σ .proposed)))) (mat X)) (proposes (σ .proposed ++ (X ∷ [])) σ))
+    -- A faulty station speaks.
     speak : (m : Message) → Speakable (σ .run) (σ .wire) m → Step σ (send m σ)
+    -- A request or an ack is delivered into an empty place; a station that takes a request acks it, unless it is the origin.
     take-word : {τ : State M} (i o s j : ℕ) (v : Value) (P : Places) → Taken σ i (word o s) j v P
         → Echoes (places P σ) i (word o s) j v τ → Step σ τ
+    -- A proposal or a prepare is delivered into an empty place; a station that takes a proposal sends a prepare, unless it is the
+    -- leader, and one that becomes prepared sends a commit after it.
     take-vote : {ρ τ : State M} (i n j : ℕ) (v : Value) (P : Places) → Taken σ i (vote n) j v P
         → Echoes (places P σ) i (vote n) j v ρ → Commits σ ρ i n τ → Step σ τ
+    -- A commit is delivered into an empty place.
     take-commit : (i n j : ℕ) (v : Value) (P : Places) → Taken σ i (commit n) j v P → Step σ (places P σ)
-    -- the same word again
+    -- A word is delivered that its place holds already.
     again : (i : ℕ) (t : Topic) (j : ℕ) (v : Value) → Correct (σ .run) i → In (say j t v) (σ .wire) → σ .place (spot i t j) ≡ Some v → Step σ σ
-    -- another word in the place
+    -- A word is delivered whose place holds another one: its speaker is accused.
     another : (i : ℕ) (t : Topic) (j : ℕ) (v w : Value) (A : ℕ → ℕ) → Correct (σ .run) i → In (say j t v) (σ .wire)
         → σ .place (spot i t j) ≡ Some w → w ≢ v → Changed (σ .accused) A i (joined (σ .accused i) j) → Step σ (accuses A σ)
+    -- A summary is delivered that is more up-to-date than the kept row: it is kept.
     newer : (i j : ℕ) (a : Row) (K : ℕ → ℕ → Row) → Correct (σ .run) i → In (summary j a) (σ .wire)
         → Stands (N (σ .run)) a (σ .kept i j) Newer → Changed₂ (σ .kept) K i j a → Step σ (keeps K σ)
+    -- A summary is delivered that is the same as the kept row, or older.
     older : (i j : ℕ) (a : Row) → Correct (σ .run) i → In (summary j a) (σ .wire) → Stands (N (σ .run)) a (σ .kept i j) Known → Step σ σ
+    -- A summary is delivered that is inconsistent with the kept row: its speaker is accused.
     inconsistent : (i j : ℕ) (a : Row) (A : ℕ → ℕ) → Correct (σ .run) i → In (summary j a) (σ .wire)
         → Stands (N (σ .run)) a (σ .kept i j) Inconsistent → Changed (σ .accused) A i (joined (σ .accused i) j) → Step σ (accuses A σ)
+    -- A correct station executes the next operation in the order of its ordered proposals, for which it has a certificate.
     execute : (i : ℕ) (x : Key) (u : ℕ) (Xs : List Matrix) (l : ℕ → List Entry) (q : ℕ → M .Q) → Correct (σ .run) i
         → Unbroken (σ .run) (σ .place) i Xs → nth (order (σ .run .f) (σ .run .limit) Xs) (length (σ .executed i)) ≡ Some x
         → CertificateAt (σ .run) (σ .place) i (x .origin) (x .sequence) u
@@ -126,4 +137,4 @@ module _ {M : Mach} where
     step : {τ υ : State M} → Later σ τ → Step τ υ → Later σ υ
 
   abbrev pub Reached : M .Q → State M → Type 0
-  Reached start σ = (ο : State M) × Opened start ο × Later ο σ
+  Reached start σ = (first : State M) × Opened start first × Later first σ

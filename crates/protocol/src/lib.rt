@@ -4,7 +4,7 @@ mod theorems;
 
 ghost use Prim.Native.Nat.{_+_};
 ghost use Rattle.model.specs.Quorums.{quorum, stations};
-ghost use Rattle.protocol.specs.Claims.{Bounded, Comparable, Executes, Lasting, OneMatrix, OneOperation, Safe, TwoFaced};
+ghost use Rattle.protocol.specs.Claims.{Bounded, Comparable, Executes, Lasting, OneMatrix, OneOperation, OneVoice, Safe, TwoFaced};
 ghost use Rattle.protocol.specs.States.{Mach};
 ghost use mathlib.Core.Path.{_≡_};
 use model::Machine;
@@ -21,11 +21,13 @@ pub fn claims_stand<M: Machine>(machine: &M, watch: Watch) -> u8
 }
 
 // How many places, at least, hold an operation that has a certificate, or a matrix that is ordered: 2f + 1. So correct
-// stations have one operation for an origin and sequence, and one matrix for a number.
+// stations have one operation for an origin and sequence, and one matrix for a number; and none of
+// them says two different words on one topic.
 pub fn one_word_stands<M: Machine>(machine: &M, watch: Watch) -> u8
     ensures number { λ r. ⌜ r ≡ quorum (watch .faults) ⌝ }
     ensures operation { λ _. ⌜ OneOperation (record { Q = M·Machine .State; step = M·Machine .step }) ⌝ }
     ensures matrix { λ _. ⌜ OneMatrix (record { Q = M·Machine .State; step = M·Machine .step }) ⌝ }
+    ensures voice { λ _. ⌜ OneVoice (record { Q = M·Machine .State; step = M·Machine .step }) ⌝ }
 {
     theorems::uniqueness(machine);
     watch.quorum()

@@ -1,5 +1,5 @@
 // One theorem or more to a function, which does nothing.
-ghost use Rattle.protocol.specs.Claims.{Bounded, Comparable, Executes, Lasting, OneMatrix, OneOperation, Safe, TwoFaced};
+ghost use Rattle.protocol.specs.Claims.{Bounded, Comparable, Executes, Lasting, OneMatrix, OneOperation, OneVoice, Safe, TwoFaced};
 ghost use Rattle.protocol.specs.States.{Mach};
 use model::Machine;
 
@@ -10,6 +10,7 @@ pub(crate) fn safety<M: Machine>(_machine: &M)
 pub(crate) fn uniqueness<M: Machine>(_machine: &M)
     ensures operation { λ _. ⌜ OneOperation (record { Q = M·Machine .State; step = M·Machine .step }) ⌝ }
     ensures matrix { λ _. ⌜ OneMatrix (record { Q = M·Machine .State; step = M·Machine .step }) ⌝ }
+    ensures voice { λ _. ⌜ OneVoice (record { Q = M·Machine .State; step = M·Machine .step }) ⌝ }
 {}
 
 pub(crate) fn persistence<M: Machine>(_machine: &M)
