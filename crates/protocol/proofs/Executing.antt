@@ -1,144 +1,36 @@
 -- A run in which every station executes: f = 1, leader 0, nobody faulty, and station 1 submits one operation.
 use Prim.Native.Nat.{ℕ, zero, suc, _≤_, _<_}
-use mathlib.Core.Bool.{Bool, true, false, cond, _&&_}
+use mathlib.Core.Bool.{cond}
 use mathlib.Core.List.{[], _∷_}
-use mathlib.Core.Logic.{_⊎_, inl, inr, _≢_}
+use mathlib.Core.Logic.{_≢_}
 use mathlib.Core.Path.{_≡_, refl, sym, ap, subst, _∙_}
 use lib.Count.{ones}
 use lib.Dec.{eqb, lit<, lit≤}
 use native.Mathlib.Omega.{arith}
-use Rattle.std.proofs.shelf.Tests.{and-parts, and-from, eqb-true, eq-eqb, ne-eqb, both-ways}
+use Rattle.std.proofs.shelf.Tests.{eqb-true, ne-eqb}
 use Rattle.std.specs.Finite.{nth}
 use Rattle.std.specs.declared.option.Option.the-variants.{Some, None}
-use Rattle.model.specs.Sets.{named, Names}
 use Rattle.model.specs.Quorums.{AtLeast, Holds}
-use Rattle.model.proofs.Members.{within-from-below, below-from-within, ones-outside, named-none, ones-none}
+use Rattle.model.proofs.Members.{within-from-below, named-none, ones-none}
 use Rattle.order.specs.Columns.{Matrix, cell}
 use Rattle.order.specs.Laws.{In, Stands}
 use Rattle.order.specs.Orders.{order, key}
 use Rattle.order.specs.Rows.{Row, entry}
 use Rattle.order.specs.declared.standing.Standing.the-variants.{Newer}
 use Rattle.order.proofs.Sequence.{nth-in}
-use Rattle.protocol.specs.States.{Run, Fit, Correct, Topic, word, vote, commit, Value, op, mat, say, summary, Spot, spot, Places, seen, Full, CertificateAt, Prepared, Unbroken, Longest, Summary, HasRow, Entry, Mach, State}
-use Rattle.protocol.specs.Steps.{Changed, Changed₂, send, places, submits, proposes, keeps, executes, Taken, echo, still, commits, quiet, Later, same, step}
+use Rattle.protocol.specs.States.{Run, Fit, Correct, Topic, word, vote, commit, Value, op, mat, say, summary, spot, Places, seen, Full, CertificateAt, Prepared, Unbroken, Longest, Summary, HasRow, Entry, Mach, State}
+use Rattle.protocol.specs.Steps.{send, submits, proposes, keeps, executes, echo, still, commits, quiet, Later, same, step}
 use Rattle.protocol.specs.Steps.Step.{submit, summarise, propose, take-word, take-vote, take-commit, newer, execute}
 use Rattle.protocol.specs.Claims.{Executes}
 use Rattle.protocol.proofs.Invariant.{zero-row}
 use Rattle.protocol.proofs.Lists.{never}
-use Rattle.protocol.proofs.Places.{holds-spot, holds-below-n}
-use Rattle.protocol.proofs.Speaking.{fresh, fresh-opened}
-
--- ---- one place changed
-
-abbrev eqTopic : Topic → Topic → Bool
-eqTopic (word o s) (word p t) = eqb o p && eqb s t
-eqTopic (word o s) (vote n) = false
-eqTopic (word o s) (commit n) = false
-eqTopic (vote n) (word p t) = false
-eqTopic (vote n) (vote m) = eqb n m
-eqTopic (vote n) (commit m) = false
-eqTopic (commit n) (word p t) = false
-eqTopic (commit n) (vote m) = false
-eqTopic (commit n) (commit m) = eqb n m
-
-off : {A : Type 0} → false ≡ true → A
-off e = let z : _≡_ {A = ℕ} 0 1 = cc in absurd (omega arith)
-
-topics : (a b : Topic) → eqTopic a b ≡ true → a ≡ b
-topics (word o s) (word p t) e = let h = and-parts (eqb o p) (eqb s t) e in let x = eqb-true o p (h .0) in let y = eqb-true s t (h .1) in cc
-topics (word o s) (vote n) e = off e
-topics (word o s) (commit n) e = off e
-topics (vote n) (word p t) e = off e
-topics (vote n) (vote m) e = ap vote (eqb-true n m e)
-topics (vote n) (commit m) e = off e
-topics (commit n) (word p t) e = off e
-topics (commit n) (vote m) e = off e
-topics (commit n) (commit m) e = ap commit (eqb-true n m e)
-
-topic-self : (a : Topic) → eqTopic a a ≡ true
-topic-self (word o s) = and-from (eqb o o) (eqb s s) (eq-eqb o o refl) (eq-eqb s s refl)
-topic-self (vote n) = eq-eqb n n refl
-topic-self (commit n) = eq-eqb n n refl
-
-abbrev eqSpot : Spot → Spot → Bool
-eqSpot (spot i t j) (spot a s b) = eqb j b && (eqb i a && eqTopic t s)
-
-spots : (x y : Spot) → eqSpot x y ≡ true → x ≡ y
-spots (spot i t j) (spot a s b) e =
-    let h = and-parts (eqb j b) (eqb i a && eqTopic t s) e in
-    let k = and-parts (eqb i a) (eqTopic t s) (h .1) in
-    let x = eqb-true i a (k .0) in let y = topics t s (k .1) in let z = eqb-true j b (h .0) in cc
-
-spot-self : (x : Spot) → eqSpot x x ≡ true
-spot-self (spot i t j) = and-from (eqb j j) (eqb i i && eqTopic t t) (eq-eqb j j refl) (and-from (eqb i i) (eqTopic t t) (eq-eqb i i refl) (topic-self t))
-
-abbrev upd : {A B : Type 0} → (A → A → Bool) → (A → B) → A → B → A → B
-upd eq g a b x = cond (eq x a) b (g x)
-
-changed : {A B : Type 0} (eq : A → A → Bool) (g : A → B) (a : A) (b : B) → ((x y : A) → eq x y ≡ true → x ≡ y) → eq a a ≡ true → Changed g (upd eq g a b) a b
-changed {A} {B} eq g a b sound e = (ap (λ c. cond c b (g a)) e, λ x. go x (eq x a) refl)
-  where
-    go : (x : A) (c : Bool) → eq x a ≡ c → (x ≡ a) ⊎ (cond (eq x a) b (g x) ≡ g x)
-    go x true d = inl (sound x a d)
-    go x false d = inr (ap (λ c. cond c b (g x)) d)
-
-abbrev upd₂ : (ℕ → ℕ → Row) → ℕ → ℕ → Row → ℕ → ℕ → Row
-upd₂ g i j b x y = cond (eqb x i && eqb y j) b (g x y)
-
-changed₂ : (g : ℕ → ℕ → Row) (i j : ℕ) (b : Row) → Changed₂ g (upd₂ g i j b) i j b
-changed₂ g i j b = (ap (λ c. cond c b (g i j)) (and-from (eqb i i) (eqb j j) (eq-eqb i i refl) (eq-eqb j j refl)), λ x y. go x y (eqb x i && eqb y j) refl)
-  where
-    go : (x y : ℕ) (c : Bool) → (eqb x i && eqb y j) ≡ c → ((x ≡ i) × (y ≡ j)) ⊎ (cond (eqb x i && eqb y j) b (g x y) ≡ g x y)
-    go x y true d = let h = and-parts (eqb x i) (eqb y j) d in inl (eqb-true x i (h .0), eqb-true y j (h .1))
-    go x y false d = inr (ap (λ c. cond c b (g x y)) d)
-
--- ---- two and three of four stations
-
-among : (m set : ℕ) (A : ℕ → Type 0) → set < 16 → m ≤ ones set → (Names set 0 → A 0) → (Names set 1 → A 1) → (Names set 2 → A 2) → (Names set 3 → A 3) → AtLeast m A
-among m set A l c a0 a1 a2 a3 = (set, λ j n. omega (arith, within-from-below 4 set l j n), c, λ j n. go j n (within-from-below 4 set l j n))
-  where
-    go : (j : ℕ) → Names set j → j < 4 → A j
-    go zero n l = a0 n
-    go (suc zero) n l = a1 n
-    go (suc (suc zero)) n l = a2 n
-    go (suc (suc (suc zero))) n l = a3 n
-    go (suc (suc (suc (suc j)))) n l = absurd (omega arith)
-
-ones-5 : 2 ≤ ones 5
-unfolding ones
-ones-5 = lit≤ tt
-
-ones-6 : 2 ≤ ones 6
-unfolding ones
-ones-6 = lit≤ tt
-
-ones-7 : 3 ≤ ones 7
-unfolding ones
-ones-7 = lit≤ tt
-
-ones-2 : ones 2 ≤ 1
-unfolding ones
-ones-2 = lit≤ tt
-
-zero-and-two : (A : ℕ → Type 0) → A 0 → A 2 → AtLeast 2 A
-zero-and-two A a b = among 2 5 A (lit< tt) ones-5 (λ _. a) off (λ _. b) off
-
-one-and-two : (A : ℕ → Type 0) → A 1 → A 2 → AtLeast 2 A
-one-and-two A a b = among 2 6 A (lit< tt) ones-6 off (λ _. a) (λ _. b) off
-
-first-three : (A : ℕ → Type 0) → A 0 → A 1 → A 2 → AtLeast 3 A
-first-three A a b c = among 3 7 A (lit< tt) ones-7 (λ _. a) (λ _. b) (λ _. c) off
-
--- one station is not two
-only-one : (A : ℕ → Type 0) → ((j : ℕ) → A j → j ≡ 1) → AtLeast 2 A → ⊥
-only-one A one (s, w, c, h) =
-    let r = ones-outside 16 s 2 (below-from-within 16 s w) (omega (arith, ones-2)) in
-    both-ways (named 2 1) (subst (λ j. named 2 j ≡ false) (one (r .0) (h (r .0) (r .2))) (r .3)) refl
+use Rattle.protocol.proofs.Places.{holds-spot}
+use Rattle.protocol.proofs.Four.{upd, changed, upd₂, changed₂, zero-and-two, one-and-two, first-three, not-same, four, fresh, fresh-opened, put, taken, unprepared}
 
 -- ---- the run
 
 abbrev r0 : Run
-r0 = record { f = 1; limit = 1; leader = 0; faulty = 0 }
+r0 = four 0
 
 fit0 : Fit r0
 fit0 = record { faults = (lit≤ tt, lit≤ tt); watch = (lit≤ tt, lit≤ tt); leads = lit< tt; known = within-from-below 4 0 (lit< tt); few = omega (arith, ones-none) }
@@ -162,9 +54,6 @@ order-1 = refl
 
 more : Stands 4 a (0 ∷ 0 ∷ 0 ∷ 0 ∷ []) Newer
 more = (λ o l. omega (arith, zero-row 4 o), (1, lit< tt, lit< tt))
-
-not-same : {A : Type 0} (j k : ℕ) → eqb j k ≡ false → j ≡ k → A
-not-same j k e h = off (sym e ∙ eq-eqb j k h)
 
 -- a station with a certificate for the one operation, and no other requests, summarises so
 sums : (P : Places) (i u : ℕ) → CertificateAt r0 P i 1 1 u → P (spot i (word 0 1) 0) ≡ None → P (spot i (word 2 1) 2) ≡ None → P (spot i (word 3 1) 3) ≡ None → Summary r0 P i a
@@ -199,13 +88,6 @@ all g h (suc (suc (suc (suc o)))) l e0 e1 e2 e3 = absurd (omega arith)
 -- ---- several deliveries to one station
 
 module _ {M : Mach} where
-  abbrev put : ℕ → Topic → ℕ → Value → State M → State M
-  put i t j v σ = places (upd eqSpot (σ .place) (spot i t j) (Some v)) σ
-
-  taken : (σ : State M) (i : ℕ) (t : Topic) (j : ℕ) (v : Value) → Correct (σ .run) i → In (say j t v) (σ .wire)
-      → σ .place (spot i t j) ≡ None → Taken σ i t j v (upd eqSpot (σ .place) (spot i t j) (Some v))
-  taken σ i t j v c h e = record { at = c; heard = h; empty = e; filled = changed eqSpot (σ .place) (spot i t j) (Some v) spots (spot-self (spot i t j)) }
-
   -- a station takes the acks of 0 and 2 for an operation of 1
   acks : (first σ : State M) (i : ℕ) (v : Value) → Later first σ → Correct (σ .run) i → In (say 0 T1 v) (σ .wire) → In (say 2 T1 v) (σ .wire)
       → σ .place (spot i T1 0) ≡ None → σ .place (spot i T1 2) ≡ None → Later first (put i T1 2 v (put i T1 0 v σ))
@@ -221,17 +103,6 @@ module _ {M : Mach} where
       step (step (step l (take-commit i 1 0 v _ (taken σ i (commit 1) 0 v c h0 e0)))
       (take-commit i 1 1 v _ (taken (put i (commit 1) 0 v σ) i (commit 1) 1 v c h1 e1)))
       (take-commit i 1 2 v _ (taken (put i (commit 1) 1 v (put i (commit 1) 0 v σ)) i (commit 1) 2 v c h2 e2))
-
--- with first votes of 0 and 1 alone a station is not prepared
-unprepared : (P : Places) (i : ℕ) → P (spot i (vote 1) 2) ≡ None → P (spot i (vote 1) 3) ≡ None → (Y : Matrix) → Prepared r0 P i 1 Y → ⊥
-unprepared P i e2 e3 Y h = only-one (λ j. (j ≢ 0) × Holds (seen r0 P i (vote 1)) (mat Y) j) (λ j x. go j (x .0) (holds-spot r0 P i (vote 1) (mat Y) j (x .1)) (holds-below-n r0 P i (vote 1) (mat Y) j (x .1))) (h .1)
-  where
-    go : (j : ℕ) → j ≢ 0 → P (spot i (vote 1) j) ≡ Some (mat Y) → j < 4 → j ≡ 1
-    go zero ne e l = absurd (ne refl)
-    go (suc zero) ne e l = refl
-    go (suc (suc zero)) ne e l = absurd (never (sym e2 ∙ e))
-    go (suc (suc (suc zero))) ne e l = absurd (never (sym e3 ∙ e))
-    go (suc (suc (suc (suc j)))) ne e l = absurd (omega arith)
 
 certified : (P : Places) (i : ℕ) (v : Value) → P (spot i T1 1) ≡ Some v → P (spot i T1 0) ≡ Some v → P (spot i T1 2) ≡ Some v → Full r0 P i T1 v
 certified P i v e1 e0 e2 = (e1, zero-and-two (λ j. (j ≢ 1) × Holds (seen r0 P i T1) v j) (not-same 0 1 refl, e0) (not-same 2 1 refl, e2))
@@ -370,56 +241,56 @@ module _ (M : Mach) (start : M .Q) (u : ℕ) where
   s17 = put 0 (vote 1) 0 (mat X) s16
 
   w17 : Later s0 s17
-  w17 = step w16 (take-vote 0 1 0 (mat X) _ (taken s16 0 (vote 1) 0 (mat X) (correct 0 (lit< tt)) (nth-in (s16 .wire) 7 (say 0 (vote 1) (mat X)) refl) refl) (still (λ e. refl)) (quiet (λ Y h. absurd (unprepared (put 0 (vote 1) 0 (mat X) s16 .place) 0 refl refl Y h))))
+  w17 = step w16 (take-vote 0 1 0 (mat X) _ (taken s16 0 (vote 1) 0 (mat X) (correct 0 (lit< tt)) (nth-in (s16 .wire) 7 (say 0 (vote 1) (mat X)) refl) refl) (still (λ e. refl)) (quiet (λ Y h. absurd (unprepared 0 (put 0 (vote 1) 0 (mat X) s16 .place) 0 refl refl Y h))))
 
   abbrev s18 : State M
   s18 = send (say 1 (vote 1) (mat X)) (put 1 (vote 1) 0 (mat X) s17)
 
   w18 : Later s0 s18
-  w18 = step w17 (take-vote 1 1 0 (mat X) _ (taken s17 1 (vote 1) 0 (mat X) (correct 1 (lit< tt)) (nth-in (s17 .wire) 7 (say 0 (vote 1) (mat X)) refl) refl) (echo refl (not-same 1 0 refl)) (quiet (λ Y h. absurd (unprepared (put 1 (vote 1) 0 (mat X) s17 .place) 1 refl refl Y h))))
+  w18 = step w17 (take-vote 1 1 0 (mat X) _ (taken s17 1 (vote 1) 0 (mat X) (correct 1 (lit< tt)) (nth-in (s17 .wire) 7 (say 0 (vote 1) (mat X)) refl) refl) (echo refl (not-same 1 0 refl)) (quiet (λ Y h. absurd (unprepared 0 (put 1 (vote 1) 0 (mat X) s17 .place) 1 refl refl Y h))))
 
   abbrev s19 : State M
   s19 = send (say 2 (vote 1) (mat X)) (put 2 (vote 1) 0 (mat X) s18)
 
   w19 : Later s0 s19
-  w19 = step w18 (take-vote 2 1 0 (mat X) _ (taken s18 2 (vote 1) 0 (mat X) (correct 2 (lit< tt)) (nth-in (s18 .wire) 7 (say 0 (vote 1) (mat X)) refl) refl) (echo refl (not-same 2 0 refl)) (quiet (λ Y h. absurd (unprepared (put 2 (vote 1) 0 (mat X) s18 .place) 2 refl refl Y h))))
+  w19 = step w18 (take-vote 2 1 0 (mat X) _ (taken s18 2 (vote 1) 0 (mat X) (correct 2 (lit< tt)) (nth-in (s18 .wire) 7 (say 0 (vote 1) (mat X)) refl) refl) (echo refl (not-same 2 0 refl)) (quiet (λ Y h. absurd (unprepared 0 (put 2 (vote 1) 0 (mat X) s18 .place) 2 refl refl Y h))))
 
   -- they take two prepares, and send commits
   abbrev s20 : State M
   s20 = put 0 (vote 1) 1 (mat X) s19
 
   w20 : Later s0 s20
-  w20 = step w19 (take-vote 0 1 1 (mat X) _ (taken s19 0 (vote 1) 1 (mat X) (correct 0 (lit< tt)) (nth-in (s19 .wire) 8 (say 1 (vote 1) (mat X)) refl) refl) (still (not-same 1 0 refl)) (quiet (λ Y h. absurd (unprepared (put 0 (vote 1) 1 (mat X) s19 .place) 0 refl refl Y h))))
+  w20 = step w19 (take-vote 0 1 1 (mat X) _ (taken s19 0 (vote 1) 1 (mat X) (correct 0 (lit< tt)) (nth-in (s19 .wire) 8 (say 1 (vote 1) (mat X)) refl) refl) (still (not-same 1 0 refl)) (quiet (λ Y h. absurd (unprepared 0 (put 0 (vote 1) 1 (mat X) s19 .place) 0 refl refl Y h))))
 
   abbrev s21 : State M
   s21 = send (say 0 (commit 1) (mat X)) (put 0 (vote 1) 2 (mat X) s20)
 
   w21 : Later s0 s21
-  w21 = step w20 (take-vote 0 1 2 (mat X) _ (taken s20 0 (vote 1) 2 (mat X) (correct 0 (lit< tt)) (nth-in (s20 .wire) 9 (say 2 (vote 1) (mat X)) refl) refl) (still (not-same 2 0 refl)) (commits X (unprepared (s20 .place) 0 refl refl) (prepared (put 0 (vote 1) 2 (mat X) s20 .place) 0 refl refl refl)))
+  w21 = step w20 (take-vote 0 1 2 (mat X) _ (taken s20 0 (vote 1) 2 (mat X) (correct 0 (lit< tt)) (nth-in (s20 .wire) 9 (say 2 (vote 1) (mat X)) refl) refl) (still (not-same 2 0 refl)) (commits X (unprepared 0 (s20 .place) 0 refl refl) (prepared (put 0 (vote 1) 2 (mat X) s20 .place) 0 refl refl refl)))
 
   abbrev s22 : State M
   s22 = put 1 (vote 1) 1 (mat X) s21
 
   w22 : Later s0 s22
-  w22 = step w21 (take-vote 1 1 1 (mat X) _ (taken s21 1 (vote 1) 1 (mat X) (correct 1 (lit< tt)) (nth-in (s21 .wire) 8 (say 1 (vote 1) (mat X)) refl) refl) (still (not-same 1 0 refl)) (quiet (λ Y h. absurd (unprepared (put 1 (vote 1) 1 (mat X) s21 .place) 1 refl refl Y h))))
+  w22 = step w21 (take-vote 1 1 1 (mat X) _ (taken s21 1 (vote 1) 1 (mat X) (correct 1 (lit< tt)) (nth-in (s21 .wire) 8 (say 1 (vote 1) (mat X)) refl) refl) (still (not-same 1 0 refl)) (quiet (λ Y h. absurd (unprepared 0 (put 1 (vote 1) 1 (mat X) s21 .place) 1 refl refl Y h))))
 
   abbrev s23 : State M
   s23 = send (say 1 (commit 1) (mat X)) (put 1 (vote 1) 2 (mat X) s22)
 
   w23 : Later s0 s23
-  w23 = step w22 (take-vote 1 1 2 (mat X) _ (taken s22 1 (vote 1) 2 (mat X) (correct 1 (lit< tt)) (nth-in (s22 .wire) 9 (say 2 (vote 1) (mat X)) refl) refl) (still (not-same 2 0 refl)) (commits X (unprepared (s22 .place) 1 refl refl) (prepared (put 1 (vote 1) 2 (mat X) s22 .place) 1 refl refl refl)))
+  w23 = step w22 (take-vote 1 1 2 (mat X) _ (taken s22 1 (vote 1) 2 (mat X) (correct 1 (lit< tt)) (nth-in (s22 .wire) 9 (say 2 (vote 1) (mat X)) refl) refl) (still (not-same 2 0 refl)) (commits X (unprepared 0 (s22 .place) 1 refl refl) (prepared (put 1 (vote 1) 2 (mat X) s22 .place) 1 refl refl refl)))
 
   abbrev s24 : State M
   s24 = put 2 (vote 1) 1 (mat X) s23
 
   w24 : Later s0 s24
-  w24 = step w23 (take-vote 2 1 1 (mat X) _ (taken s23 2 (vote 1) 1 (mat X) (correct 2 (lit< tt)) (nth-in (s23 .wire) 8 (say 1 (vote 1) (mat X)) refl) refl) (still (not-same 1 0 refl)) (quiet (λ Y h. absurd (unprepared (put 2 (vote 1) 1 (mat X) s23 .place) 2 refl refl Y h))))
+  w24 = step w23 (take-vote 2 1 1 (mat X) _ (taken s23 2 (vote 1) 1 (mat X) (correct 2 (lit< tt)) (nth-in (s23 .wire) 8 (say 1 (vote 1) (mat X)) refl) refl) (still (not-same 1 0 refl)) (quiet (λ Y h. absurd (unprepared 0 (put 2 (vote 1) 1 (mat X) s23 .place) 2 refl refl Y h))))
 
   abbrev s25 : State M
   s25 = send (say 2 (commit 1) (mat X)) (put 2 (vote 1) 2 (mat X) s24)
 
   w25 : Later s0 s25
-  w25 = step w24 (take-vote 2 1 2 (mat X) _ (taken s24 2 (vote 1) 2 (mat X) (correct 2 (lit< tt)) (nth-in (s24 .wire) 9 (say 2 (vote 1) (mat X)) refl) refl) (still (not-same 2 0 refl)) (commits X (unprepared (s24 .place) 2 refl refl) (prepared (put 2 (vote 1) 2 (mat X) s24 .place) 2 refl refl refl)))
+  w25 = step w24 (take-vote 2 1 2 (mat X) _ (taken s24 2 (vote 1) 2 (mat X) (correct 2 (lit< tt)) (nth-in (s24 .wire) 9 (say 2 (vote 1) (mat X)) refl) refl) (still (not-same 2 0 refl)) (commits X (unprepared 0 (s24 .place) 2 refl refl) (prepared (put 2 (vote 1) 2 (mat X) s24 .place) 2 refl refl refl)))
 
   -- everybody takes the three commits, and executes
   abbrev s26 : State M

@@ -90,3 +90,8 @@ Executes M = (start : M .Q) (u : ℕ)
 abbrev pub TwoFaced : Mach → Type 0
 TwoFaced M = (start : M .Q) → (σ : State M) × Reached start σ × (named (σ .run .faulty) (σ .run .leader) ≡ true)
     × ((n : ℕ) × (X : Matrix) × (Y : Matrix) × In (say (σ .run .leader) (vote n) (mat X)) (σ .wire) × In (say (σ .run .leader) (vote n) (mat Y)) (σ .wire) × (X ≢ Y))
+
+-- In some reached state a faulty leader is listed as two-faced by a correct station.
+abbrev pub Accuses : Mach → Type 0
+Accuses M = (start : M .Q) → (σ : State M) × Reached start σ × (named (σ .run .faulty) (σ .run .leader) ≡ true)
+    × ((i : ℕ) × Correct (σ .run) i × (named (σ .accused i) (σ .run .leader) ≡ true))

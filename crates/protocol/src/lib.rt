@@ -4,7 +4,7 @@ mod theorems;
 
 ghost use Prim.Native.Nat.{_+_};
 ghost use Rattle.model.specs.Quorums.{quorum, stations};
-ghost use Rattle.protocol.specs.Claims.{Bounded, Comparable, Executes, Lasting, OneMatrix, OneOperation, OneVoice, Safe, TwoFaced};
+ghost use Rattle.protocol.specs.Claims.{Accuses, Bounded, Comparable, Executes, Lasting, OneMatrix, OneOperation, OneVoice, Safe, TwoFaced};
 ghost use Rattle.protocol.specs.States.{Mach};
 ghost use mathlib.Core.Path.{_≡_};
 use model::Machine;
@@ -46,11 +46,12 @@ pub fn what_lasts<M: Machine>(machine: &M, watch: Watch) -> u8
 }
 
 // How many stations the runs have that show that the rules can be met: 4, where f is 1. In one everybody executes; in
-// another a faulty leader speaks two different proposals under one number.
+// another a faulty leader speaks two different proposals under one number, and a correct station accuses it.
 pub fn runs_exist<M: Machine>(machine: &M) -> u8
     ensures number { λ r. ⌜ r ≡ stations 1 ⌝ }
     ensures executes { λ _. ⌜ Executes (record { Q = M·Machine .State; step = M·Machine .step }) ⌝ }
     ensures liar { λ _. ⌜ TwoFaced (record { Q = M·Machine .State; step = M·Machine .step }) ⌝ }
+    ensures accuses { λ _. ⌜ Accuses (record { Q = M·Machine .State; step = M·Machine .step }) ⌝ }
 {
     theorems::existence(machine);
     let faults = 1;

@@ -1,5 +1,5 @@
 // One theorem or more to a function, which does nothing.
-ghost use Rattle.protocol.specs.Claims.{Bounded, Comparable, Executes, Lasting, OneMatrix, OneOperation, OneVoice, Safe, TwoFaced};
+ghost use Rattle.protocol.specs.Claims.{Accuses, Bounded, Comparable, Executes, Lasting, OneMatrix, OneOperation, OneVoice, Safe, TwoFaced};
 ghost use Rattle.protocol.specs.States.{Mach};
 use model::Machine;
 
@@ -22,4 +22,5 @@ pub(crate) fn persistence<M: Machine>(_machine: &M)
 pub(crate) fn existence<M: Machine>(_machine: &M)
     ensures executes { λ _. ⌜ Executes (record { Q = M·Machine .State; step = M·Machine .step }) ⌝ }
     ensures liar { λ _. ⌜ TwoFaced (record { Q = M·Machine .State; step = M·Machine .step }) ⌝ }
+    ensures accuses { λ _. ⌜ Accuses (record { Q = M·Machine .State; step = M·Machine .step }) ⌝ }
 {}
