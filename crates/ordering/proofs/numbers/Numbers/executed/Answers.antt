@@ -23,7 +23,7 @@ returns g c =
     let done = doneOf (g .Op·Operation .bits) in
     let entries = map (mapped done) (t .executed .now) in
     let by : c .executed-by .result ≡ executedBy p (t .counts .now) i =
-        c .executed-by .ensures ∙ ap (λ n. min (getD (t .counts .now) i none .executed) (n * c .args .self .watch .limit)) (c .stations .ensures) in
+    c .executed-by .ensures ∙ ap (λ n. min (getD (t .counts .now) i none .executed) (n * c .args .self .watch .limit)) (c .stations .ensures) in
     read-present done (c .present .result) (t .executed .now) _ (c .present .ensures)
     ∙ ap (λ n. joined (nth entries (i * (n * c .args .self .watch .limit) + k))) (c .stations .ensures)
     ∙ sym (cond-false (leb (executedBy p (t .counts .now) i) k) _ _ (lt-leb (executedBy p (t .counts .now) i) k (omega arith)))
