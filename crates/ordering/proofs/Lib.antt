@@ -1,4 +1,6 @@
+pub mod Certified
 pub mod Clearing
+pub mod Indices
 pub mod Items
 pub mod Opened
 pub mod Sending

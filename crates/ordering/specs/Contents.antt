@@ -1,6 +1,6 @@
 -- What the tables of a run hold, by meaning.
 use Prim.Native.Nat.{ℕ, _*_}
-use Rattle.model.specs.Quorums.{stations}
+use Rattle.model.specs.Quorums.{held, stations}
 use Rattle.ordering.specs.Cleared.{front}
 use Rattle.ordering.specs.Plans.{Plan, votePlaces, wordPlaces}
 use Rattle.ordering.specs.declared.tables.Counts.{Counts}
@@ -43,9 +43,9 @@ abbrev pub contents : {Mach Op Q : Type 0} → (Op → ℕ) → (Mach → Q) →
 contents bits means t =
     record {
       wire = map frameOf (now (t .wire));
-      words = map (mapped bits) (now (t .words));
-      votes = map (mapped matrixOf) (now (t .votes));
-      commits = map (mapped matrixOf) (now (t .commits));
+      words = held bits (now (t .words));
+      votes = held matrixOf (now (t .votes));
+      commits = held matrixOf (now (t .commits));
       kept = map rowOf (now (t .kept));
       executed = map (mapped (doneOf bits)) (now (t .executed));
       machines = map means (now (t .machines));

@@ -1,5 +1,6 @@
 -- What can be read of a run.
-use Prim.Native.Nat.{ℕ, _+_, _*_, min}
+use Prim.Native.Nat.{ℕ, _+_, _-_, _*_, min}
+use Rattle.model.specs.Decided.{certifiedBy}
 use Rattle.model.specs.Quorums.{stations}
 use Rattle.model.specs.Sets.{named}
 use Rattle.ordering.specs.Contents.{Contents, Done, none}
@@ -8,8 +9,8 @@ use Rattle.ordering.specs.Plans.{Lengths, Plan, short}
 use Rattle.std.specs.declared.option.Option.{Option}
 use Rattle.std.specs.declared.option.Option.the-variants.{Some, None}
 use Rattle.std.specs.shelf.Maps.{nth}
-use lib.Dec.{leb}
-use lib.ListN.{getD}
+use lib.Dec.{eqb, leb, ltb}
+use lib.ListN.{drop, getD, take}
 use mathlib.Core.Bool.{Bool, cond, _||_}
 use mathlib.Core.List.{List}
 
@@ -39,3 +40,18 @@ executedAt p t c i k =
     cond (unread p t i) None
     (cond (leb (executedBy p (c .counts) i) k) None
     (joined (nth (c .executed) (i * (stations (p .faults) * p .limit) + k))))
+
+-- Where the places of an origin's sequence begin at a station, of n stations in a watch of length l.
+abbrev pub firstPlace : ℕ → ℕ → ℕ → ℕ → ℕ → ℕ
+firstPlace n l i o s = ((i * n + o) * l + (s - 1)) * n
+
+-- These places, speaker by speaker.
+abbrev pub wordsAt : Plan → List (Option ℕ) → ℕ → ℕ → ℕ → List (Option ℕ)
+wordsAt p words i o s = take (stations (p .faults)) (drop (firstPlace (stations (p .faults)) (p .limit) i o s) words)
+
+-- The operation that is certified at a station, for an origin and a sequence of the run.
+abbrev pub certifiedAt : {Q : Type 0} → Plan → Lengths → Contents Q → ℕ → ℕ → ℕ → Option ℕ
+certifiedAt p t c i o s =
+    cond (unread p t i) None
+    (cond (leb (stations (p .faults)) o || (ltb s 1 || ltb (p .limit) s)) None
+    (certifiedBy eqb (p .faults) (wordsAt p (c .words) i o s) o))
