@@ -1,6 +1,6 @@
 -- Dates by the lengths of the months.
-use Rattle.std.proofs.Common.{◌≡◌, ℕ, zero, suc, ◌+◌, ◌-◌, ◌<◌, ◌≤◌, Bool, true, false, cond, ◌||◌, eqb, ltb, leb, ◌⊎◌, List, [], ◌∷◌, length, get_or, take, Some, None, sum, Option, sym, refl, ap, ◌∙◌, inl, inr, arith, MatchOption}
-use Rattle.calendar.specs.Calendar.{Entry, Lies, date_from, date_of, month_lengths, year_length}
+use Rattle.std.proofs.Common.{◌≡◌, ℕ, suc, ◌+◌, ◌-◌, ◌<◌, ◌≤◌, Bool, true, false, cond, ◌||◌, eqb, ltb, leb, List, [], ◌∷◌, length, get_or, take, Some, None, sum, Option, sym, ◌∙◌, arith, MatchOption}
+use Rattle.calendar.specs.Calendar.{Entry, Lies, date_from, date_of, month_lengths}
 use Rattle.calendar.specs.declared.Date.{Date}
 use Rattle.std.proofs.lemmas.List.Sums.{sum_by-cons}
 use Rattle.std.proofs.lemmas.Bool.{cond_both, cond-false, leb-false, leb-true, ltb-false, ltb-true, ne_eqb}

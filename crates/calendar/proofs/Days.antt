@@ -1,5 +1,5 @@
 -- The table of days, against the lengths of the months.
-use Rattle.std.proofs.Common.{◌≡◌, ℕ, ◌+◌, ◌-◌, ◌<◌, ◌≤◌, Bool, true, false, cond, ◌&&◌, eqb, ltb, List, map, length, get_or, Some, None, Option, unwrap_or, sym, ap, ◌∙◌, arith}
+use Rattle.std.proofs.Common.{◌≡◌, ℕ, ◌+◌, ◌<◌, Bool, true, false, cond, ◌&&◌, eqb, ltb, List, map, length, get_or, Some, None, Option, unwrap_or, sym, ap, ◌∙◌, arith}
 use Rattle.calendar.proofs.Table.{at, every}
 use Rattle.calendar.specs.Calendar.{Entry, date_of}
 use Rattle.calendar.specs.declared.Date.{Date}

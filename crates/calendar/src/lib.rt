@@ -1,4 +1,6 @@
 // The calendar: the date of a day of the year.
+#![tactic(auto)]
+
 ghost use Rattle.std.specs.Prelude.{◌≡◌, ℕ, ◌-◌, ◌<◌, ◌≤◌, ◌||◌, ◌⊎◌, if◌then◌else◌, MatchOption, nat_lt};
 ghost use Rattle.calendar.specs.Calendar.{Entry, Lies, date_of, year_length};
 

@@ -1,4 +1,4 @@
-use Rattle.std.specs.Prelude.{ℕ, List, [], ◌∷◌, map, Option}
+use Rattle.std.specs.Prelude.{ℕ, List, [], ◌∷◌, Option}
 use Rattle.canal.specs.Layout.{bad, foreign, joined, last}
 use Rattle.canal.specs.declared.gate_order.GateOrder.{GateOrder}
 use Rattle.canal.specs.declared.layout.Field.{Field}

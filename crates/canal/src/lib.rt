@@ -1,4 +1,6 @@
 // Gate orders and water transfers: made, packed and unpacked.
+#![tactic(auto)]
+
 mod gate_order;
 mod layout;
 mod transfer;

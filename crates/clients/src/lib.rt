@@ -1,4 +1,6 @@
 // Small clients of runs, over every machine, with the proof that their runs have a past.
+#![tactic(auto)]
+
 mod orders;
 mod sends;
 

@@ -8,7 +8,7 @@ use tables::Tables;
 
 // Delivers the first places of the wire, as many as named, to a station. Refused deliveries are passed over.
 fn hand_over<M: Machine>(run: &mut Open, t: &mut Tables<'_, M>, station: u32, places: u32)
-    ensures { Continues Op-as-Operation.refused (run_of Op-as-Operation.bits M.Machine.means run.old t.old) (run_of Op-as-Operation.bits M.Machine.means run.new t.new) }
+    ensures { Continues M.Op.Operation.refused (run_of M.Op.Operation.bits M.Machine.means run.old t.old) (run_of M.Op.Operation.bits M.Machine.means run.new t.new) }
 {
     for place in 0..places {
         let _ = run.deliver(t, station, place);
@@ -17,7 +17,7 @@ fn hand_over<M: Machine>(run: &mut Open, t: &mut Tables<'_, M>, station: u32, pl
 
 // The same for each of the first so many stations.
 fn hand_to_all<M: Machine>(run: &mut Open, t: &mut Tables<'_, M>, stations: u32, places: u32)
-    ensures { Continues Op-as-Operation.refused (run_of Op-as-Operation.bits M.Machine.means run.old t.old) (run_of Op-as-Operation.bits M.Machine.means run.new t.new) }
+    ensures { Continues M.Op.Operation.refused (run_of M.Op.Operation.bits M.Machine.means run.old t.old) (run_of M.Op.Operation.bits M.Machine.means run.new t.new) }
 {
     for station in 0..stations {
         hand_over(run, t, station, places);

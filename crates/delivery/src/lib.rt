@@ -1,4 +1,6 @@
 // What the delivery of a frame does at a station: a reader of the tables that refuses, or says what is to be changed and sent.
+#![tactic(auto)]
+
 mod change;
 mod deciding;
 mod hearing;

@@ -1,4 +1,6 @@
 // The worked examples of the rules, and tests of every layer on values that the rules give.
+#![tactic(auto)]
+
 ghost use Rattle.examples.specs.Worked.{Computed, all_hold, worked};
 ghost use Rattle.std.specs.Prelude.{◌≡◌, true, length};
 

@@ -1,9 +1,9 @@
-use Rattle.std.proofs.Common.{◌≡◌, ℕ, suc, ◌+◌, ◌-◌, ◌*◌, ◌/◌, ◌%◌, ◌^◌, ◌<◌, ◌≤◌, List, [], ◌∷◌, length, get_or, drop, sym, refl, ap, ◌∙◌, div-one, arith}
+use Rattle.std.proofs.Common.{◌≡◌, ℕ, suc, ◌+◌, ◌-◌, ◌*◌, ◌/◌, ◌%◌, ◌^◌, ◌<◌, ◌≤◌, List, [], ◌∷◌, length, get_or, sym, refl, ap, ◌∙◌, div-one, arith}
 use Rattle.frames.specs.Views.{Bytes}
 use Rattle.frames.specs.Writing.{word_bytes}
 use Rattle.rows.proofs.Repack.{bit_of_field, bit-repacked, field_below, field-drop, field_in_two, field_is, field_same, repacked_back}
-use Rattle.rows.specs.Bits.{Small, bit, entries, field, field_of, packed, repacked, room}
-use Rattle.std.proofs.lemmas.List.{get_or-drop, get_or_past}
+use Rattle.rows.specs.Bits.{Small, bit, entries, field, field_of, packed, room}
+use Rattle.std.proofs.lemmas.List.{get_or_past}
 use native.Mathlib.Nat.{zero-div, zero-mod}
 
 -- 64 bits in eight bytes and back.

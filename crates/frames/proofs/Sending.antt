@@ -4,7 +4,7 @@ use Rattle.frames.proofs.Judging.{none_or, or_none}
 use Rattle.frames.specs.Kinds.{head_fault, kind_number, size, stations}
 use Rattle.frames.specs.Said.{Said, request, ack, summary, proposal, prepare, commit}
 use Rattle.frames.specs.Views.{Valued, said_by}
-use Rattle.frames.specs.Writing.{body_of, count_fault, faults_of, fitting, frame, head_bytes, head_number, kind_of, part_unfit, sender_of, sequence_of, unfit, word_bytes, written}
+use Rattle.frames.specs.Writing.{body_of, count_fault, faults_of, fitting, frame, head_bytes, head_number, kind_of, part_unfit, sender_of, sequence_of, unfit, written}
 use Rattle.frames.specs.declared.kind.Kind.{Kind}
 use Rattle.frames.specs.declared.kind.Message.{Message}
 use Rattle.frames.specs.declared.kind.Message.TheVariants as messages

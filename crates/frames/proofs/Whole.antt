@@ -1,9 +1,9 @@
-use Rattle.std.proofs.Common.{◌≡◌, ℕ, ◌+◌, ◌-◌, ◌*◌, ◌^◌, ◌<◌, ◌≤◌, true, false, not, eqb, ltb, leb, List, [], ◌∷◌, ◌++◌, length, get_or, take, drop, Some, None, Ok, Option, sym, refl, ap, ◌∙◌, arith}
+use Rattle.std.proofs.Common.{◌≡◌, ℕ, ◌+◌, ◌-◌, ◌*◌, ◌<◌, ◌≤◌, false, not, eqb, ltb, leb, List, [], ◌∷◌, ◌++◌, length, get_or, take, drop, None, Ok, Option, sym, refl, ap, ◌∙◌, arith}
 use Rattle.frames.proofs.Bodies.{ack_back, ack_there, entries_back, entries_there, filling_there, word_back, word_there}
-use Rattle.frames.proofs.Headers.{Heads, head_back, head_there, heads, kind_back, kind_small, kind_there, sequence_none, sequence_small, sequence_some, unless-none}
+use Rattle.frames.proofs.Headers.{head_back, head_there, heads, kind_back, kind_small, kind_there, sequence_none, sequence_small, sequence_some, unless-none}
 use Rattle.frames.proofs.Judging.{answer-none, meaning-split, none_or, or_none, read_inv, split_there, two}
 use Rattle.frames.specs.Kinds.{bad_sequence, head_fault, kind_number, size, stations, unless}
-use Rattle.frames.specs.Meaning.{body_fault, filling_fault, judged, meaning, or_else, part_fault, said_in, shifted}
+use Rattle.frames.specs.Meaning.{body_fault, filling_fault, meaning, part_fault, said_in, shifted}
 use Rattle.frames.specs.Said.{Said, request, ack, summary, proposal, prepare, commit}
 use Rattle.frames.specs.Views.{Accepted, Bytes, Numbered, Origin, Sound, Valued, header_of, kind_is, said_of}
 use Rattle.frames.specs.Writing.{body_of, faults_of, frame, head_bytes, head_number, kind_of, part_unfit, sender_of, sequence_of, unfit}
@@ -17,7 +17,7 @@ use Rattle.model.specs.declared.fault.Reason.TheVariants.{FrameFilling, FrameLen
 use Rattle.rows.specs.Bits.{Small, entries, field, packed, room}
 use Rattle.std.proofs.lemmas.List.FromFn.{length-map-range_with_len}
 use Rattle.std.proofs.lemmas.List.{get_or-drop}
-use Rattle.std.proofs.lemmas.Bool.{eq-eqb, eqb-true, le-ltb, leb-false, lt-leb, ltb-false, not-false}
+use Rattle.std.proofs.lemmas.Bool.{eq-eqb, eqb-true, leb-false, ltb-false, not-false}
 
 long_from : (es : List ℕ) (n : ℕ) → unless (not (eqb (length es) n)) FrameLength 0 None ≡ None → length es ≡ n
 long_from es n e = eqb-true _ _ (not-false _ (unless-none (not (eqb (length es) n)) FrameLength 0 None e).0)

@@ -1,4 +1,6 @@
 // Frames: bytes to meanings and back. A frame is a header of two bytes and a body.
+#![tactic(auto)]
+
 mod heads;
 mod kind;
 mod reading;

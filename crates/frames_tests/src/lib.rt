@@ -1,4 +1,6 @@
 // Tests of the frames, over an operation of their own.
+#![tactic(auto)]
+
 #[cfg(test)]
 mod operation;
 #[cfg(test)]

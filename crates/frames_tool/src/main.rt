@@ -1,5 +1,7 @@
 // Reads frames from standard input, one a line in hexadecimal, and prints what each says or why it is refused.
 // The argument `gate` or `transfer` chooses the type of the operations.
+#![tactic(auto)]
+
 mod hex;
 mod told;
 
@@ -38,10 +40,10 @@ fn main(rt: HostRuntime) -> io::Result<()> {
     let mut text = Vec::new(rt.alloc());
     rt.stdin().read_to_end(&mut text)?;
     for word in env::args(&rt)? {
-        if word == "gate" {
+        if word.as_str() == "gate" {
             print_frames::<GateOrder>(&rt, text.as_slice())?;
         }
-        if word == "transfer" {
+        if word.as_str() == "transfer" {
             print_frames::<Transfer>(&rt, text.as_slice())?;
         }
     }

@@ -1,4 +1,6 @@
 // Lines of decimal numbers.
+#![tactic(auto)]
+
 ghost use Rattle.std.specs.Prelude.{◌≡◌, ℕ, ◌<◌, ◌≤◌, true, length, slice_index};
 ghost use Rattle.lines.specs.Numbers.{decimal, digit, field_at, first_line, number_at, numbers_of, other_lines};
 ghost use Rattle.std.specs.Option.{option_map};

@@ -1,8 +1,8 @@
 -- The set of those who hold a word, gathered place by place.
-use Rattle.std.proofs.Common.{◌≡◌, ℕ, ◌+◌, ◌<◌, ◌≤◌, true, false, ◌≢◌, List, length, get_or, None, Decides, Option, sym, refl, ap, ◌∙◌, subst, inl, inr, arith}
+use Rattle.std.proofs.Common.{◌≡◌, ℕ, ◌+◌, ◌<◌, ◌≤◌, true, false, List, length, get_or, None, Decides, Option, sym, ap, ◌∙◌, subst, inl, inr, arith}
 use Rattle.std.proofs.lemmas.Bool.{cases_lt, cases_eq, both_ways}
 use Rattle.std.proofs.lemmas.List.{get_or-map}
-use Rattle.model.specs.Sets.{named, Names, Within, joined}
+use Rattle.model.specs.Sets.{named, Within, joined}
 use Rattle.model.specs.Quorums.{Holds, Backers, held, meant}
 use Rattle.model.proofs.Members.{within_from_below, below_from_within, joined_in, joined_keeps, joined_lt, named_none}
 use Rattle.model.proofs.Meeting.{holds_below}

@@ -1,10 +1,10 @@
 -- The computed certificate is the certificate; and meanings that agree give the same certificates.
-use Rattle.std.proofs.Common.{◌≡◌, ℕ, zero, suc, ◌+◌, ◌*◌, ◌<◌, ◌≤◌, Bool, true, false, cond, leb, ◌≢◌, ◌⊎◌, List, [], ◌∷◌, length, get_or, Some, None, Decides, Option, sym, refl, ap, ◌∙◌, subst, inl, inr, arith}
+use Rattle.std.proofs.Common.{◌≡◌, ℕ, zero, suc, ◌*◌, ◌<◌, Bool, true, false, cond, leb, ◌⊎◌, List, [], ◌∷◌, length, get_or, Some, None, Decides, Option, sym, refl, ap, ◌∙◌, subst, inl, inr, arith}
 use lib.Count.{ones}
 use Rattle.std.proofs.lemmas.List.{get_or-map, length-map}
 use Rattle.std.proofs.lemmas.Bool.{cases_Bool, leb-true, leb-false, false≢true}
-use Rattle.model.specs.Sets.{named, Names, parted}
-use Rattle.model.specs.Quorums.{AtLeast, Holds, Backers, Certificate, Certified, Ordered, OrderedAt, Answers, held, meant, quorum}
+use Rattle.model.specs.Sets.{parted}
+use Rattle.model.specs.Quorums.{Holds, Backers, Certificate, Certified, Ordered, Answers, held, meant, quorum}
 use Rattle.model.specs.Decided.{Tells, holds_by, backers_by, backed_by, certified_by, first_by, ordered_by}
 use Rattle.model.proofs.Members.{gathered_in, gathered_from}
 use Rattle.model.proofs.Meeting.{holds_below, backers_least, backers_others, certificate_none, least_backers, ordered_somewhere}

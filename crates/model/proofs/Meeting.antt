@@ -1,10 +1,10 @@
 -- Quorums meet; a certificate by the set of those who back it; the ordered word is one.
-use Rattle.std.proofs.Common.{◌≡◌, ℕ, ◌+◌, ◌*◌, ◌^◌, ◌<◌, ◌≤◌, true, false, ◌≢◌, List, length, get_or, Some, None, Option, sym, refl, ap, ◌∙◌, subst, inl, inr, arith}
+use Rattle.std.proofs.Common.{◌≡◌, ℕ, ◌+◌, ◌*◌, ◌<◌, ◌≤◌, false, ◌≢◌, List, length, Some, None, Option, sym, refl, ◌∙◌, subst, inl, inr, arith}
 use lib.Bits.{bit_and, and_le_l}
 use lib.Count.{ones}
 use Rattle.std.proofs.lemmas.List.{get_or_past}
 use Rattle.std.proofs.lemmas.Bool.{cases_lt, cases_eq, cases_Bool}
-use Rattle.model.specs.Sets.{named, Names, Within, joined, parted}
+use Rattle.model.specs.Sets.{named, joined, parted}
 use Rattle.model.specs.Quorums.{stations, quorum, AtLeast, Holds, Backers, Tally, Certificate, Ordered, OrderedAt, Meet, Shared, Most}
 use Rattle.model.proofs.Members.{below_from_within, within_from_below, ones_none, ones_subset, ones_meet, ones-outside, named_meet, apart, ones-apart, apart_names, parted_keeps, parted_names, parted_least, joined_many, joined_keeps, joined_lt}
 

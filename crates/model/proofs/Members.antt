@@ -1,7 +1,7 @@
 -- Members of a set, one digit at a time, and how many a set has.
 use Rattle.std.proofs.Common.{◌≡◌, ℕ, zero, suc, ◌+◌, ◌-◌, ◌*◌, ◌/◌, ◌%◌, ◌^◌, ◌<◌, ◌≤◌, min, Bool, true, false, cond, ◌&&◌, eqb, ltb, ◌≢◌, ◌⊎◌, sym, refl, ap, ◌∙◌, subst, inl, inr, add-zero, one-mul, pow-suc, zero-add, div-one, one-add, arith, lit<}
 use lib.Bits.{bit_and, bit_or, or_shr, or_mod, or_zero_r, or_shifted_r, or_lt, or_add_and, and_le_l, and_step}
-use lib.Count.{ones, ones_in, ones_step, ones_cat}
+use lib.Count.{ones, ones_step, ones_cat}
 use native.Mathlib.Nat.{div-eq_of_lt, div_self, mul-mod_right, pow-succ'}
 use Rattle.std.proofs.lemmas.Nat.{pow_below, pow-add, pow_pos, shl-shr, shr-shr, mod_below}
 use Rattle.std.proofs.lemmas.Bool.{cases_order, cases_lt, cases_Bool, and_parts, eq-eqb, ne_eqb, eqb-true, eqb-false, ltb-true, lt-ltb, le-ltb, both_ways}

@@ -1,5 +1,5 @@
 -- Who holds a word, and how many are enough. A slice of places is a list: place j is speaker j's, and is empty or holds a word.
-use Rattle.std.specs.Prelude.{◌≡◌, ℕ, ◌+◌, ◌*◌, ◌^◌, ◌<◌, ◌≤◌, false, ◌≢◌, List, map, Some, None, Decides, Option, bit_and, count_ones, slice_index_or}
+use Rattle.std.specs.Prelude.{◌≡◌, ℕ, ◌+◌, ◌*◌, ◌<◌, ◌≤◌, false, ◌≢◌, List, map, Some, None, Decides, Option, bit_and, count_ones, slice_index_or}
 use Rattle.model.specs.Sets.{named, Names, Within}
 
 -- Where f stations may be faulty there are 3f + 1, of which 2f + 1 are a quorum.

@@ -1,5 +1,7 @@
 // What the ordering core is generic over: words, operations and machines, each with its meaning;
 // sets of stations, who holds a word, and the numbers of a watch; and the faults with which calls decline.
+#![tactic(auto)]
+
 mod bounds;
 mod fault;
 mod places;

@@ -1,9 +1,9 @@
 -- The largest number that passes, found from the top, and counts of rows.
-use Rattle.std.proofs.Common.{◌≡◌, ℕ, zero, suc, ◌+◌, ◌-◌, ◌<◌, ◌≤◌, Bool, true, false, cond, leb, ◌⊎◌, sym, refl, ap, ◌∙◌, subst, inl, inr, suc-add, zero-add, add-one, arith}
+use Rattle.std.proofs.Common.{◌≡◌, ℕ, zero, suc, ◌+◌, ◌-◌, ◌<◌, ◌≤◌, Bool, true, false, cond, leb, ◌⊎◌, refl, ap, ◌∙◌, inl, inr, suc-add, zero-add, add-one, arith}
 use lib.Count.{ones}
-use Rattle.std.proofs.lemmas.Bool.{cases_Bool, cond-true, cond-false, le-leb, lt-leb}
+use Rattle.std.proofs.lemmas.Bool.{cases_Bool, le-leb, lt-leb}
 use Rattle.model.specs.Sets.{gathered}
-use Rattle.model.proofs.Members.{ones-gathered, ones_none}
+use Rattle.model.proofs.Members.{ones-gathered}
 use Rattle.model.specs.Quorums.{stations, quorum}
 use Rattle.order.specs.Columns.{Matrix, cell, column, largest}
 

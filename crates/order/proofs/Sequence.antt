@@ -1,7 +1,7 @@
 -- What stands in an order, and in which sequence.
-use Rattle.std.proofs.Common.{◌≡◌, ℕ, zero, suc, ◌+◌, ◌-◌, ◌<◌, ◌≤◌, max, Bool, true, false, cond, eqb, leb, ◌≢◌, ◌⊎◌, List, [], ◌∷◌, ◌++◌, length, take, Some, None, Option, sym, refl, ap, ◌∙◌, subst, ap₂, inl, inr, zero-add, arith}
+use Rattle.std.proofs.Common.{◌≡◌, ℕ, zero, suc, ◌+◌, ◌-◌, ◌<◌, ◌≤◌, max, Bool, eqb, leb, ◌≢◌, ◌⊎◌, List, [], ◌∷◌, ◌++◌, length, take, Some, None, Option, sym, refl, ap, ◌∙◌, subst, ap₂, inl, inr, arith}
 use lib.Count.{ones}
-use Rattle.std.proofs.lemmas.List.{append_assoc, append-nil}
+use Rattle.std.proofs.lemmas.List.{append-nil}
 use Rattle.std.proofs.lemmas.Bool.{cases_Bool, cases_lt, cases_eq, eq-eqb, ne_eqb, leb-true, le-leb}
 use Rattle.std.specs.List.{slice_get}
 use Rattle.model.specs.Quorums.{AtLeast, stations, quorum}
@@ -10,7 +10,7 @@ use Rattle.order.specs.Columns.{Matrix, cell, column, rows_with}
 use Rattle.order.specs.Laws.{In, Once, Begins, sequences, upward, Gapless, Backed, Adds, Before, Rising, IsOrder, Unique, OrderLaws}
 use Rattle.order.specs.Orders.{key, reach, span, each, added, raised, order_after, order}
 use Rattle.order.specs.declared.key.Key.{Key}
-use Rattle.order.proofs.Searching.{enough, largest_le, largest_passes}
+use Rattle.order.proofs.Searching.{largest_le, largest_passes}
 use Rattle.order.proofs.Spans.{order-append}
 
 -- ---- members

@@ -1,5 +1,5 @@
 -- Laws of rows and of the order, in the subject's own words.
-use Rattle.std.specs.Prelude.{◌≡◌, ℕ, zero, suc, ◌+◌, ◌*◌, ◌<◌, ◌≤◌, cond, ◌⊎◌, List, [], ◌∷◌, ◌++◌, length, take, Some, Decides, ◌==◌, count_ones}
+use Rattle.std.specs.Prelude.{◌≡◌, ℕ, zero, suc, ◌<◌, ◌≤◌, cond, ◌⊎◌, List, [], ◌∷◌, ◌++◌, length, take, Some, Decides, ◌==◌, count_ones}
 use Rattle.std.specs.List.{slice_get}
 use Rattle.model.specs.Quorums.{stations, quorum}
 use Rattle.order.specs.Columns.{Matrix, rows_with}

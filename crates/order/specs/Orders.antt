@@ -1,5 +1,5 @@
 -- The order that a list of matrices gives.
-use Rattle.std.specs.Prelude.{◌≡◌, ℕ, zero, suc, ◌+◌, ◌-◌, ◌<◌, ◌≤◌, max, Bool, cond, List, [], ◌∷◌, ◌++◌, length, Some, None, Option, nat_le}
+use Rattle.std.specs.Prelude.{ℕ, zero, suc, ◌+◌, ◌-◌, max, cond, List, [], ◌∷◌, ◌++◌, length, None, Option, nat_le}
 use Rattle.std.specs.List.{slice_get}
 use Rattle.model.specs.Quorums.{stations}
 use Rattle.order.specs.Columns.{Matrix, column}

@@ -1,4 +1,6 @@
 // Rows and the order: how rows compare, what a matrix of rows makes eligible, and in which order operations come.
+#![tactic(auto)]
+
 mod columns;
 mod key;
 mod reach;

@@ -1,12 +1,11 @@
 -- Sending, as it is decided and then written.
-use Rattle.std.proofs.Common.{◌≡◌, ℕ, ◌+◌, List, set, Ok, Err, Result, sym, ap, ◌∙◌}
+use Rattle.std.proofs.Common.{◌≡◌, ℕ, ◌+◌, List, set, Ok, Err, sym, ap, ◌∙◌}
 use Rattle.frames.specs.Said.{request}
 use Rattle.frames.specs.Writing.{frame}
 use Rattle.model.specs.declared.fault.Fault.{Fault}
-use Rattle.ordering.specs.Calls.{Does, Run, Step, counted_to, lengths_in, next_sequence, sent_by, submitted, then}
-use Rattle.ordering.specs.Contents.{Contents, contents}
-use Rattle.ordering.specs.Plans.{Lengths, Plan, lengths_of}
-use Rattle.ordering.specs.declared.sent.Sent.{Sent}
+use Rattle.ordering.specs.Calls.{Run, counted_to, lengths_in, next_sequence, sent_by, submitted, then}
+use Rattle.ordering.specs.Contents.{contents}
+use Rattle.ordering.specs.Plans.{Lengths, lengths_of}
 use Rattle.ordering.specs.declared.tables.Counts.{Counts}
 use Rattle.ordering.specs.declared.tables.Tables.{Tables}
 use Rattle.std.proofs.lemmas.List.{length-map}

@@ -1,13 +1,13 @@
 -- What each call answers and leaves.
-use Rattle.std.specs.Prelude.{◌≡◌, ℕ, ◌+◌, ◌*◌, min, List, length, Ok, Err, Result, nat_le, slice_index_or, slice_set}
-use Rattle.frames.specs.Said.{Said, request}
+use Rattle.std.specs.Prelude.{◌≡◌, ℕ, ◌+◌, min, List, length, Ok, Err, Result, nat_le, slice_index_or, slice_set}
+use Rattle.frames.specs.Said.{request}
 use Rattle.frames.specs.Writing.{frame}
 use Rattle.model.specs.Quorums.{stations}
 use Rattle.model.specs.Sets.{named}
 use Rattle.model.specs.declared.fault.Fault.{Fault}
 use Rattle.model.specs.declared.fault.Reason.TheVariants.{ShortTable, NoStation, WrongStation, NumbersUsed, WireFull}
 use Rattle.ordering.specs.Contents.{Contents, contents, none}
-use Rattle.ordering.specs.Plans.{Lengths, Plan, lengths_of, plan_of, refuse, short}
+use Rattle.ordering.specs.Plans.{Lengths, Plan, plan_of, refuse, short}
 use Rattle.ordering.specs.declared.numbers.Numbers.{Numbers}
 use Rattle.ordering.specs.declared.sent.Sent.{Sent}
 use Rattle.ordering.specs.declared.tables.Counts.{Counts}

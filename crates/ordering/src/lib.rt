@@ -1,4 +1,6 @@
 // A run of the ordering core: its numbers, the tables that are lent to each of its calls, and the calls.
+#![tactic(auto)]
+
 mod clear;
 mod fit;
 mod numbers;

@@ -16,7 +16,7 @@ use rows::Row;
 fn clear<M: Machine + Drop>(numbers: Numbers, t: &mut Tables<'_, M>, start: &M)
     requires places { Places (stations numbers.watch.faults) numbers.watch.limit (lengths_of t.old) }
     requires stations { Stations (stations numbers.watch.faults) numbers.wire (lengths_of t.old) }
-    ensures { contents Op-as-Operation.bits M.Machine.means t.new ≡ opened_on (plan_of numbers) (M.Machine.means start.now) (contents Op-as-Operation.bits M.Machine.means t.old) }
+    ensures { contents M.Op.Operation.bits M.Machine.means t.new ≡ opened_on (plan_of numbers) (M.Machine.means start.now) (contents M.Op.Operation.bits M.Machine.means t.old) }
 {
     let n = numbers.watch.stations() as usize;
     let votes = vote_places(numbers.watch);
@@ -36,7 +36,7 @@ fn clear<M: Machine + Drop>(numbers: Numbers, t: &mut Tables<'_, M>, start: &M)
 impl Fitted {
     // Opens the run: each station starts from a copy of this machine.
     pub fn open<M: Machine + Drop>(self, t: &mut Tables<'_, M>, start: &M) -> Result<Open, Declined>
-        ensures { Opens (plan_of self.numbers) (M.Machine.means start.now) (lengths_of t.old) (contents Op-as-Operation.bits M.Machine.means t.old) result (contents Op-as-Operation.bits M.Machine.means t.new) }
+        ensures { Opens (plan_of self.numbers) (M.Machine.means start.now) (lengths_of t.old) (contents M.Op.Operation.bits M.Machine.means t.old) result (contents M.Op.Operation.bits M.Machine.means t.new) }
     {
         if too_short(self.numbers.watch, self.numbers.wire as usize, t) {
             return Err(Declined {

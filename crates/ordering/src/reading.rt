@@ -59,7 +59,7 @@ impl Numbers {
 
     // The set of the speakers that the station has found two-faced.
     pub fn accused<M: Machine>(self, t: &Tables<'_, M>, station: u32) -> Option<u16>
-        ensures { result ≡ accused_by (plan_of self) (lengths_of t.now) (contents Op-as-Operation.bits M.Machine.means t.now) station }
+        ensures { result ≡ accused_by (plan_of self) (lengths_of t.now) (contents M.Op.Operation.bits M.Machine.means t.now) station }
     {
         if self.unread(t, station) {
             return None;
@@ -72,7 +72,7 @@ impl Numbers {
 
     // The station's machine.
     pub fn machine<'b, M: Machine>(self, t: &'b Tables<'_, M>, station: u32) -> Option<&'b M>
-        ensures { option_map (λ m. M.Machine.means m.now) result ≡ state_of (plan_of self) (lengths_of t.now) (contents Op-as-Operation.bits M.Machine.means t.now) station }
+        ensures { option_map (λ m. M.Machine.means m.now) result ≡ state_of (plan_of self) (lengths_of t.now) (contents M.Op.Operation.bits M.Machine.means t.now) station }
     {
         if self.unread(t, station) {
             return None;

@@ -1,3 +1,5 @@
 // Tests of runs over gate orders.
+#![tactic(auto)]
+
 #[cfg(test)]
 mod life;

@@ -1,4 +1,6 @@
 // Reads a sheet of gate orders from standard input, and prints what became of each line and which gates then stand open.
+#![tactic(auto)]
+
 use gates::MOST_GATES;
 use lines::split_line;
 use sheet::Sheet;

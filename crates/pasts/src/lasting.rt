@@ -8,8 +8,8 @@ use model::{Machine, Watch};
 // any calls; so a certificate, once held, is held for good, and so are prepared and ordered proposals.
 pub fn places_last<M: Machine>(machine: &M, watch: Watch) -> u8
     ensures number { result ≡ quorum watch.faults }
-    ensures places { PlacesLast M.Machine.State Op-as-Operation.refused }
-    ensures held { HeldForGood M.Machine.State Op-as-Operation.refused }
+    ensures places { PlacesLast M.Machine.State M.Op.Operation.refused }
+    ensures held { HeldForGood M.Machine.State M.Op.Operation.refused }
 {
     let _ = machine;
     watch.quorum()
@@ -19,7 +19,7 @@ pub fn places_last<M: Machine>(machine: &M, watch: Watch) -> u8
 // to be two-faced, and no others.
 pub fn accused_are_two_faced<M: Machine>(start: &M, watch: Watch) -> u8
     ensures number { result ≡ stations watch.faults }
-    ensures lists { ListsTwoFaced M.Machine.State Op-as-Operation.refused (M.Machine.means start.now) }
+    ensures lists { ListsTwoFaced M.Machine.State M.Op.Operation.refused (M.Machine.means start.now) }
 {
     let _ = start;
     watch.stations()

@@ -1,7 +1,7 @@
 -- A transfer, as it is settled and written, and that it keeps the sum of all volumes.
-use Rattle.std.proofs.Common.{◌≡◌, ℕ, zero, suc, ◌+◌, ◌<◌, ◌≤◌, ◌≢◌, List, map, length, get_or, take, set, Some, None, Option, sym, refl, ap, ◌∙◌, arith, length-set, get_or-set_other}
+use Rattle.std.proofs.Common.{◌≡◌, ℕ, ◌+◌, ◌<◌, ◌≤◌, ◌≢◌, List, map, length, take, set, Some, None, Option, sym, refl, ap, ◌∙◌, arith, length-set, get_or-set_other}
 use Rattle.canal.proofs.Fronts.{nth_some, take-set-front}
-use Rattle.pounds.specs.Ledgers.{Booked, Level, answered, at, judged, level, level_of, lowered, moved_by, raised, total, verdict}
+use Rattle.pounds.specs.Ledgers.{Level, answered, at, judged, level, level_of, lowered, moved_by, raised, total, verdict}
 use Rattle.canal.specs.Transfers.{Move}
 use Rattle.pounds.specs.declared.ledger.Pound.{Pound}
 use Rattle.pounds.specs.declared.ledger.PoundCode.{PoundCode}

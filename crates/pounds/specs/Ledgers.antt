@@ -1,4 +1,4 @@
-use Rattle.std.specs.Prelude.{◌≡◌, ℕ, ◌+◌, ◌-◌, Bool, cond, ◌||◌, List, map, take, Some, None, Ok, Err, sum_by, Option, Result, ◌==◌, nat_lt, slice_index_or, slice_set}
+use Rattle.std.specs.Prelude.{◌≡◌, ℕ, ◌+◌, ◌-◌, cond, ◌||◌, List, map, take, Some, None, Ok, Err, sum_by, Option, Result, ◌==◌, nat_lt, slice_index_or, slice_set}
 use Rattle.canal.specs.Transfers.{Move}
 use Rattle.pounds.specs.declared.ledger.Booking.{Booking}
 use Rattle.pounds.specs.declared.ledger.Pound.{Pound}

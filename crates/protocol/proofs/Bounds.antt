@@ -1,5 +1,5 @@
 -- All that is on the wire is within the run's bounds.
-use Rattle.std.proofs.Common.{ℕ, suc, ◌+◌, ◌*◌, ◌/◌, ◌%◌, ◌<◌, ◌≤◌, List, [], ◌∷◌, ◌++◌, length, sym, subst, inl, inr, mod-lt, div-add-mod', arith}
+use Rattle.std.proofs.Common.{ℕ, suc, ◌*◌, ◌/◌, ◌%◌, ◌<◌, ◌≤◌, List, [], ◌∷◌, ◌++◌, length, sym, subst, inl, inr, mod-lt, div-add-mod', arith}
 use Rattle.std.proofs.lemmas.Nat.{div_below}
 use Rattle.order.specs.Columns.{Matrix}
 use Rattle.order.specs.Laws.{In}

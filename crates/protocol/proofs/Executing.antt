@@ -1,5 +1,5 @@
 -- A run in which every station executes: f = 1, leader 0, nobody faulty, and station 1 submits one operation.
-use Rattle.std.proofs.Common.{◌≡◌, ℕ, zero, suc, ◌<◌, ◌≤◌, cond, eqb, ◌≢◌, [], ◌∷◌, Some, None, sym, refl, ap, ◌∙◌, subst, arith, lit<, lit≤}
+use Rattle.std.proofs.Common.{◌≡◌, ℕ, zero, suc, ◌<◌, cond, eqb, ◌≢◌, [], ◌∷◌, Some, None, sym, refl, ap, ◌∙◌, subst, arith, lit<, lit≤}
 use lib.Count.{ones}
 use Rattle.std.proofs.lemmas.Bool.{eqb-true, ne_eqb}
 use Rattle.std.specs.List.{slice_get}

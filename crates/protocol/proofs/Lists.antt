@@ -1,5 +1,5 @@
 -- Lists by position.
-use Rattle.std.proofs.Common.{◌≡◌, ℕ, zero, suc, ◌+◌, ◌<◌, ◌≤◌, ◌⊎◌, List, [], ◌∷◌, ◌++◌, map, length, Some, None, Option, sym, refl, ap, inl, inr, arith}
+use Rattle.std.proofs.Common.{◌≡◌, ℕ, zero, suc, ◌<◌, ◌≤◌, ◌⊎◌, List, [], ◌∷◌, ◌++◌, map, length, Some, None, Option, sym, refl, ap, inl, inr, arith}
 use Rattle.std.specs.List.{slice_get}
 use Rattle.order.specs.Laws.{In}
 use Rattle.order.proofs.Sequence.{in_append}

@@ -1,5 +1,5 @@
 -- Certificates and quorums over places, and that they last.
-use Rattle.std.proofs.Common.{◌≡◌, ℕ, zero, suc, ◌+◌, ◌*◌, ◌<◌, ◌≢◌, length, get_or, Some, None, Option, sym, refl, ap, ◌∙◌, subst, arith}
+use Rattle.std.proofs.Common.{◌≡◌, ℕ, zero, suc, ◌*◌, ◌<◌, ◌≢◌, length, get_or, Some, None, Option, sym, refl, ap, ◌∙◌, subst, arith}
 use Rattle.model.specs.Quorums.{AtLeast, Holds, Ordered, quorum}
 use Rattle.model.proofs.Meeting.{holds_below, certificate_whole, shared_outside}
 use Rattle.protocol.specs.States.{Run, N, Fit, Correct, Topic, Value, head, spot, Places, listed, seen, Full}

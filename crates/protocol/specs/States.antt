@@ -1,5 +1,5 @@
 -- What the stations of a run hold, and what is said of it. Stations count from 0; an operation stands as its packed form.
-use Rattle.std.specs.Prelude.{◌≡◌, ℕ, zero, suc, ◌+◌, ◌*◌, ◌<◌, ◌≤◌, false, ◌⊎◌, List, [], ◌∷◌, length, Some, Option, count_ones}
+use Rattle.std.specs.Prelude.{◌≡◌, ℕ, zero, suc, ◌*◌, ◌<◌, ◌≤◌, false, ◌⊎◌, List, [], ◌∷◌, length, Some, Option, count_ones}
 use Rattle.std.specs.List.{slice_get}
 use Rattle.model.specs.Sets.{named, Within}
 use Rattle.model.specs.Quorums.{stations, Certificate, Ordered}

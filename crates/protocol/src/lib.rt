@@ -1,5 +1,7 @@
 // The claims over whole runs, at the level of the protocol: stations, places and messages, no bytes and no tables.
 // The theorems stand on the contracts of these calls, for every machine.
+#![tactic(auto)]
+
 mod theorems;
 
 ghost use Rattle.std.specs.Prelude.{◌≡◌, ◌+◌};

@@ -1,4 +1,6 @@
 // Rows and matrices of entries of 6 bits, as owned values and as packed in bytes.
+#![tactic(auto)]
+
 mod digits;
 mod matrix;
 mod owned;

@@ -16,7 +16,7 @@ impl Open {
         station: u32,
         place: u32,
     ) -> Result<Outcome, Fault>
-        ensures { Does took (perform Op-as-Operation.refused (delivers station place) (run_of Op-as-Operation.bits M.Machine.means self.old t.old)) result (run_of Op-as-Operation.bits M.Machine.means self.old t.old) (run_of Op-as-Operation.bits M.Machine.means self.new t.new) }
+        ensures { Does took (perform M.Op.Operation.refused (delivers station place) (run_of M.Op.Operation.bits M.Machine.means self.old t.old)) result (run_of M.Op.Operation.bits M.Machine.means self.old t.old) (run_of M.Op.Operation.bits M.Machine.means self.new t.new) }
     {
         let Delivery {
             outcome,

@@ -1,4 +1,6 @@
 // Runs of the ordering core: fitted, opened, closed, and the calls on an open run. Tables are lent to each call.
+#![tactic(auto)]
+
 mod calls;
 mod closing;
 mod delivering;

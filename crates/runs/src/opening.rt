@@ -27,7 +27,7 @@ impl Fitted {
 
     // Opens the run: each station starts from a copy of this machine.
     pub fn open<M: Machine + Drop>(self, t: &mut Tables<'_, M>, start: &M) -> Result<Open, Declined>
-        ensures { Opens (plan_of self.numbers) (M.Machine.means start.now) (lengths_of t.old) (contents Op-as-Operation.bits M.Machine.means t.old) result (contents Op-as-Operation.bits M.Machine.means t.new) }
+        ensures { Opens (plan_of self.numbers) (M.Machine.means start.now) (lengths_of t.old) (contents M.Op.Operation.bits M.Machine.means t.old) result (contents M.Op.Operation.bits M.Machine.means t.new) }
     {
         let numbers = self.numbers;
         match numbers.lay(t, start) {

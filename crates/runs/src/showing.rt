@@ -16,8 +16,8 @@ impl Open {
         place: u32,
         to: &mut [u8],
     ) -> Result<usize, Fault>
-        ensures answer { result ≡ shown Op-as-Operation.refused (run_of Op-as-Operation.bits M.Machine.means self.now t.now) place (length to.old) }
-        ensures leaves { to.new ≡ leaves result (slice_index_or (run_of Op-as-Operation.bits M.Machine.means self.now t.now).held.wire place []) to.old }
+        ensures answer { result ≡ shown M.Op.Operation.refused (run_of M.Op.Operation.bits M.Machine.means self.now t.now) place (length to.old) }
+        ensures leaves { to.new ≡ leaves result (slice_index_or (run_of M.Op.Operation.bits M.Machine.means self.now t.now).held.wire place []) to.old }
     {
         let Open { numbers, end, .. } = self;
         if numbers.short(t) {

@@ -1,4 +1,6 @@
 // Tests of runs.
+#![tactic(auto)]
+
 #[cfg(test)]
 mod bench;
 #[cfg(test)]

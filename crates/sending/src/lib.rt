@@ -1,4 +1,6 @@
 // What a station is to send: readers of the tables that refuse, or make the frame.
+#![tactic(auto)]
+
 mod numbered;
 mod proposing;
 mod speaking;

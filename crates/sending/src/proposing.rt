@@ -81,7 +81,7 @@ pub fn to_propose<M: Machine>(
     t: &Tables<'_, M>,
     station: u32,
 ) -> Result<Numbered, Fault>
-    ensures is { seen_as out_of result ≡ to_propose (plan_of numbers) end last (contents Op-as-Operation.bits M.Machine.means t.now) station }
+    ensures is { seen_as out_of result ≡ to_propose (plan_of numbers) end last (contents M.Op.Operation.bits M.Machine.means t.now) station }
     ensures fits { IfOk result (λ x. Sendable (plan_of numbers) end (lengths_of t.now) station x.sequence) }
 {
     let i = numbers.correct(t, station)?;

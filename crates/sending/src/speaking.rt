@@ -17,7 +17,7 @@ pub fn to_speak<M: Machine>(
     station: u32,
     bytes: &[u8],
 ) -> Result<Slot, Fault>
-    ensures is { seen_as frame_of result ≡ to_speak Op-as-Operation.refused (plan_of numbers) end (contents Op-as-Operation.bits M.Machine.means t.now) station bytes.now }
+    ensures is { seen_as frame_of result ≡ to_speak M.Op.Operation.refused (plan_of numbers) end (contents M.Op.Operation.bits M.Machine.means t.now) station bytes.now }
     ensures fits { OnOk result (Sendable (plan_of numbers) end (lengths_of t.now) station 0) }
 {
     let i = numbers.faulty(t, station)?;

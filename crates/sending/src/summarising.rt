@@ -66,7 +66,7 @@ pub fn to_summarise<M: Machine>(
     t: &Tables<'_, M>,
     station: u32,
 ) -> Result<Slot, Fault>
-    ensures is { seen_as frame_of result ≡ to_summarise (plan_of numbers) end (contents Op-as-Operation.bits M.Machine.means t.now) station }
+    ensures is { seen_as frame_of result ≡ to_summarise (plan_of numbers) end (contents M.Op.Operation.bits M.Machine.means t.now) station }
     ensures fits { OnOk result (Sendable (plan_of numbers) end (lengths_of t.now) station 0) }
 {
     let i = numbers.correct(t, station)?;

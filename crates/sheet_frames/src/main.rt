@@ -1,5 +1,7 @@
 // Reads gate orders from standard input, one a line with the station that submits it, submits them to a run of four
 // stations, and prints what each is answered with, and then the frames on the wire.
+#![tactic(auto)]
+
 mod entering;
 mod hex;
 mod line;

@@ -14,7 +14,7 @@ use rows::Row;
 fn clear<M: Machine + Drop>(numbers: Numbers, t: &mut Tables<'_, M>, start: &M)
     requires places { Places (stations numbers.watch.faults) numbers.watch.limit (lengths_of t.old) }
     requires stations { Stations (stations numbers.watch.faults) numbers.wire (lengths_of t.old) }
-    ensures { contents Op-as-Operation.bits M.Machine.means t.new ≡ opened_on (plan_of numbers) (M.Machine.means start.now) (contents Op-as-Operation.bits M.Machine.means t.old) }
+    ensures { contents M.Op.Operation.bits M.Machine.means t.new ≡ opened_on (plan_of numbers) (M.Machine.means start.now) (contents M.Op.Operation.bits M.Machine.means t.old) }
 {
     let n = numbers.watch.stations() as usize;
     let votes = vote_places(numbers.watch);
@@ -34,7 +34,7 @@ fn clear<M: Machine + Drop>(numbers: Numbers, t: &mut Tables<'_, M>, start: &M)
 impl Numbers {
     // Makes the tables ready for a run of these numbers, in which each station starts from a copy of this machine.
     pub fn lay<M: Machine + Drop>(self, t: &mut Tables<'_, M>, start: &M) -> Result<(), Fault>
-        ensures { Lays (plan_of self) (M.Machine.means start.now) (lengths_of t.old) (contents Op-as-Operation.bits M.Machine.means t.old) result (contents Op-as-Operation.bits M.Machine.means t.new) }
+        ensures { Lays (plan_of self) (M.Machine.means start.now) (lengths_of t.old) (contents M.Op.Operation.bits M.Machine.means t.old) result (contents M.Op.Operation.bits M.Machine.means t.new) }
     {
         if too_short(self.watch, self.wire as usize, t) {
             return Err(Fault::new(Reason::ShortTable, 0));

@@ -1,4 +1,6 @@
 // The numbers of a run, the tables that are lent to each of its calls, and what can be read of them.
+#![tactic(auto)]
+
 mod clear;
 mod fit;
 mod laying;

@@ -13,7 +13,7 @@ use model::{Fault, Machine, Reason, names};
 impl Numbers {
     // Whether a table is too short for the run.
     pub fn short<M: Machine>(self, t: &Tables<'_, M>) -> bool
-        ensures { result ≡ short_of (stations self.watch.faults) self.watch.limit self.wire (lengths_in (contents Op-as-Operation.bits M.Machine.means t.now)) }
+        ensures { result ≡ short_of (stations self.watch.faults) self.watch.limit self.wire (lengths_in (contents M.Op.Operation.bits M.Machine.means t.now)) }
     {
         too_short(self.watch, self.wire as usize, t)
     }
@@ -43,7 +43,7 @@ impl Numbers {
 
     // The station, if tables are long enough and it is a correct one.
     pub fn correct<M: Machine>(self, t: &Tables<'_, M>, station: u32) -> Result<usize, Fault>
-        ensures is { result ≡ correct_in (plan_of self) (lengths_in (contents Op-as-Operation.bits M.Machine.means t.now)) station }
+        ensures is { result ≡ correct_in (plan_of self) (lengths_in (contents M.Op.Operation.bits M.Machine.means t.now)) station }
         ensures ready { IfOk result (Ready (plan_of self) (lengths_of t.now)) }
         ensures same { IfOk result (λ i. i ≡ station) }
     {
@@ -52,7 +52,7 @@ impl Numbers {
 
     // The station, if tables are long enough and it is a faulty one.
     pub fn faulty<M: Machine>(self, t: &Tables<'_, M>, station: u32) -> Result<usize, Fault>
-        ensures is { result ≡ faulty_in (plan_of self) (lengths_in (contents Op-as-Operation.bits M.Machine.means t.now)) station }
+        ensures is { result ≡ faulty_in (plan_of self) (lengths_in (contents M.Op.Operation.bits M.Machine.means t.now)) station }
         ensures ready { IfOk result (Ready (plan_of self) (lengths_of t.now)) }
         ensures same { IfOk result (λ i. i ≡ station) }
     {

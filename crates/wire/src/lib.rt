@@ -1,4 +1,6 @@
 // Frames on the wire of a run.
+#![tactic(auto)]
+
 mod inventing;
 mod limits;
 mod places;

@@ -2,7 +2,7 @@ use Rattle.lines.proofs.field.Goals as goal
 use Rattle.lines.specs.Numbers.{number_at, spaced_at}
 use Rattle.std.proofs.lemmas.List.{take_rest}
 use Rattle.std.proofs.lemmas.Bool.{cond-false, cond-true, eq-eqb}
-use Rattle.std.proofs.Common.{get_or, drop, sym, ap, ◌∙◌}
+use Rattle.std.proofs.Common.{get_or, sym, ap, ◌∙◌}
 
 pub returns : goal.returns
 returns c =

@@ -1,9 +1,8 @@
 use Rattle.std.proofs.Common.{◌≡◌, ℕ, ◌-◌, ◌≤◌, cond, ◌||◌, ltb, List, length, take, drop, Some, None, Option, sym, ap, ◌∙◌, arith}
 use Rattle.lines.proofs.number.Goals as goal
-use Rattle.lines.specs.Numbers.{decimal, digit, number_at}
+use Rattle.lines.specs.Numbers.{decimal}
 use Rattle.std.proofs.lemmas.List.{get_or-take, length-take, take_rest}
 use Rattle.std.proofs.lemmas.Bool.Decides.{nat_tests}
-use Rattle.std.specs.List.{prefix_len}
 
 pub value-requires : goal.value-requires
 value-requires c =

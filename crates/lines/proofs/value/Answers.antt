@@ -1,4 +1,4 @@
-use Rattle.std.proofs.Common.{◌≡◌, ℕ, ◌+◌, ◌*◌, ◌^◌, ◌<◌, ◌≤◌, leb, length, get_or, take, sym, ap, ◌∙◌, pow-suc, add-one, arith}
+use Rattle.std.proofs.Common.{◌≡◌, ℕ, ◌+◌, ◌*◌, ◌^◌, ◌<◌, ◌≤◌, leb, get_or, sym, ap, ◌∙◌, pow-suc, add-one, arith}
 use Rattle.lines.proofs.value.Goals as goal
 use Rattle.lines.specs.Numbers.{decimal}
 use Rattle.std.proofs.lemmas.List.{take_all}
@@ -10,16 +10,16 @@ use native.Mathlib.Nat.{pow-le-pow_right}
 small : (n i : ℕ) → n < 10 ^ i → i ≤ 8 → n < 100000000
 small n i h l = let p : 10 ^ i ≤ 10 ^ 8 = pow-le-pow_right (omega arith) l in omega arith
 
-at-most-nine : (c : goal.After-row-known·1) → get_or c.args.digits.now c.loop-b.b-index 0 ≤ 57
+at-most-nine : (c : goal.After-row_known-1) → get_or c.args.digits.now c.loop-b.b-index 0 ≤ 57
 at-most-nine c =
     let b = get_or c.args.digits.now c.loop-b.b-index 0 in
     leb-true b 57 (and_parts (leb 48 b) (leb b 57) (c.requires.all c.loop-b.b-index c.loop-b-test.true)).1
 
-pub overflow-mul-n : goal.overflow-mul-n
-overflow-mul-n c = let s = small c.loop-b.n c.loop-b.b-index c.loop-b.invariant.1 (omega (arith, c.requires.few)) in omega arith
+pub overflow_mul-n : goal.overflow_mul-n
+overflow_mul-n c = let s = small c.loop-b.n c.loop-b.b-index c.loop-b.invariant.1 (omega (arith, c.requires.few)) in omega arith
 
-pub overflow-add-n : goal.overflow-add-n
-overflow-add-n c =
+pub overflow_add-n : goal.overflow_add-n
+overflow_add-n c =
     let s = small c.loop-b.n c.loop-b.b-index c.loop-b.invariant.1 (omega (arith, c.requires.few)) in
     let most = at-most-nine c in
     omega arith

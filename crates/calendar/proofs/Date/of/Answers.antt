@@ -1,7 +1,7 @@
 use Rattle.calendar.proofs.Dates.{lies, read_entry}
 use Rattle.calendar.proofs.Date.of.Goals as goal
-use Rattle.calendar.specs.Calendar.{date_of, Entry}
-use Rattle.std.proofs.Common.{◌≡◌, Some, sym, subst}
+use Rattle.calendar.specs.Calendar.{Entry}
+use Rattle.std.proofs.Common.{sym, subst}
 
 pub returns : goal.returns
 returns c =

@@ -4,6 +4,6 @@ use Rattle.runs.specs.Perform.{run_of}
 
 abbrev pub invariant-loop-station : goal.invariant-loop-station
 invariant-loop-station g l =
-    let bits = g.Op.Operation.bits in
+    let bits = g.M.Op.Operation.bits in
     let means = g.M.Machine.means in
-    Continues g.Op.Operation.refused (run_of bits means l.initial.run l.initial.t) (run_of bits means l.run l.t)
+    Continues g.M.Op.Operation.refused (run_of bits means l.initial.run l.initial.t) (run_of bits means l.run l.t)

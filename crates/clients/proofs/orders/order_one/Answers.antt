@@ -7,7 +7,7 @@ use Rattle.tables.specs.Plans.{lengths_of, plan_of}
 
 pub returns : goal.returns
 returns g c =
-    let bits = g.Op.Operation.bits in
+    let bits = g.M.Op.Operation.bits in
     let means = g.M.Machine.means in
     let t = c.args.t.now in
     let n = c.args.numbers in

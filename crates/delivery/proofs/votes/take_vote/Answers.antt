@@ -20,7 +20,7 @@ pub returns : goal.returns
 returns g c =
     record {
       tells =
-          vote_told g.Op.Operation.bits (plan_of c.args.numbers) (held matrix_of c.args.t.now.votes.now) c.args.matrix c.args.station c.args.number
+          vote_told g.M.Op.Operation.bits (plan_of c.args.numbers) (held matrix_of c.args.t.now.votes.now) c.args.matrix c.args.station c.args.number
           c.args.speaker c.first-vote.result c.taken.result c.sent-if-one.result c.sent-if-next.result c.echoes.result c.newly-prepared-commits.result
           c.taken.ensures.outcome c.taken.ensures.change c.taken.ensures.frames c.first-vote.ensures.is c.sent-if-one.ensures c.echoes.ensures
           c.sent-if-next.ensures c.newly-prepared-commits.ensures (simp length-map (omega arith)) c.requires.speaker c.requires.matrix.1;

@@ -5,14 +5,14 @@ use Rattle.frames.specs.Views.{Borrows, Bytes, said_of}
 use Rattle.std.proofs.lemmas.List.{take_rest}
 use Rattle.std.proofs.Common.{sym, ◌∙◌, subst, arith, ltb-false}
 
-pub returns-in-Some-fault-in : goal.returns-in-Some-fault-in
-returns-in-Some-fault-in g c =
+pub returns-in-Some-fault_in : goal.returns-in-Some-fault_in
+returns-in-Some-fault_in g c =
     let refused = g.O.Operation.refused in
     let bs = c.args.bytes.now in
     let kind = c.in-Some.kind in
-    let k = known refused bs kind c.bits.result c.bits-2.result c.bits-3.result c.bits-4.result c.numbered.result c.fault-in.result (omega (arith, ltb-false)) c.bits.ensures c.bits-2.ensures c.bits-3.ensures c.bits-4.ensures c.numbered.ensures c.in-Some.is c.fault-in.ensures in
+    let k = known refused bs kind c.bits.result c.bits-2.result c.bits-3.result c.bits-4.result c.numbered.result c.fault_in.result (omega (arith, ltb-false)) c.bits.ensures c.bits-2.ensures c.bits-3.ensures c.bits-4.ensures c.numbered.ensures c.in-Some.is c.fault_in.ensures in
     record {
-      means = sym (known_err refused bs kind c.bits-2.result c.bits-3.result c.bits-4.result c.fault-in.result c.in-Some-fault-in.fault k c.in-Some-fault-in.is);
+      means = sym (known_err refused bs kind c.bits-2.result c.bits-3.result c.bits-4.result c.fault_in.result c.in-Some-fault_in.fault k c.in-Some-fault_in.is);
       parts = tt;
       sound = tt;
       written = tt;
@@ -25,9 +25,9 @@ returns g c =
     let bs = c.args.bytes.now in
     let kind = c.in-Some.kind in
     let x = c.frame.result in
-    let k = known refused bs kind c.bits.result c.bits-2.result c.bits-3.result c.bits-4.result c.numbered.result c.fault-in.result (omega (arith, ltb-false)) c.bits.ensures c.bits-2.ensures c.bits-3.ensures c.bits-4.ensures c.numbered.ensures c.in-Some.is c.fault-in.ensures in
-    let e = known_ok refused bs kind c.bits-2.result c.bits-3.result c.bits-4.result c.fault-in.result (said_of x) k c.in-default-fault-in.is c.frame.ensures.said in
-    let small : Bytes bs = λ k. omega (arith, c.type-inv.bytes k) in
+    let k = known refused bs kind c.bits.result c.bits-2.result c.bits-3.result c.bits-4.result c.numbered.result c.fault_in.result (omega (arith, ltb-false)) c.bits.ensures c.bits-2.ensures c.bits-3.ensures c.bits-4.ensures c.numbered.ensures c.in-Some.is c.fault_in.ensures in
+    let e = known_ok refused bs kind c.bits-2.result c.bits-3.result c.bits-4.result c.fault_in.result (said_of x) k c.in_default-fault_in.is c.frame.ensures.said in
+    let small : Bytes bs = λ k. omega (arith, c.type_inv.bytes k) in
     let same = frame_back refused bs (said_of x) small e.0 in
     let fit = fit_back refused bs (said_of x) e.0 in
     record {

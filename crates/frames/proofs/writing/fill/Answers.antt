@@ -18,7 +18,7 @@ Values f m = Valued (said_by 0 f m)
 pub returns-in-Request : goal.returns-in-Request
 returns-in-Request c =
     record {
-      body = c.copy-from-slice.ensures.after ∙ c.to-be-bytes.ensures ∙ word_bytes_lem c.in-Request.packed ∙ sym (ap (body c.args.faults) c.in-Request.is);
+      body = c.copy_from_slice.ensures.after ∙ c.to_be_bytes.ensures ∙ word_bytes_lem c.in-Request.packed ∙ sym (ap (body c.args.faults) c.in-Request.is);
       values = let fits : c.in-Request.packed < 2 ^ 64 = omega arith in subst (Values c.args.faults) (sym c.in-Request.is) fits;
     }
 
@@ -26,8 +26,8 @@ pub returns-in-Ack : goal.returns-in-Ack
 returns-in-Ack c =
     let long : length c.args.to.now ≡ 9 = c.requires.long ∙ ap (λ m. length (body c.args.faults m)) c.in-Ack.is in
     record {
-      body = fills_ack c.args.to.now c.copy-from-slice-in-Ack.new.self (c.in-Ack.origin * 16) long
-          ∙ ap (λ w. c.in-Ack.origin * 16 ∷ w) (c.copy-from-slice-in-Ack.ensures.after ∙ c.to-be-bytes-in-Ack.ensures ∙ word_bytes_lem c.in-Ack.packed)
+      body = fills_ack c.args.to.now c.copy_from_slice-in-Ack.new.self (c.in-Ack.origin * 16) long
+          ∙ ap (λ w. c.in-Ack.origin * 16 ∷ w) (c.copy_from_slice-in-Ack.ensures.after ∙ c.to_be_bytes-in-Ack.ensures ∙ word_bytes_lem c.in-Ack.packed)
           ∙ sym (ap (body c.args.faults) c.in-Ack.is);
       values = let fits : c.in-Ack.packed < 2 ^ 64 = omega arith in subst (Values c.args.faults) (sym c.in-Ack.is) fits;
     }

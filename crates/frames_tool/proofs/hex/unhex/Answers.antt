@@ -1,4 +1,4 @@
-use Rattle.std.proofs.Common.{◌≡◌, ◌+◌, ◌-◌, ◌*◌, ◌≤◌, [], ◌∷◌, ◌++◌, length, take, drop, vec_items, sym, ap, ◌∙◌, arith, ltb-false}
+use Rattle.std.proofs.Common.{◌≤◌, ◌++◌, length, drop, vec_items, sym, ap, ◌∙◌, arith, ltb-false}
 use Rattle.frames_tool.proofs.Pairs.{pair}
 use Rattle.frames_tool.proofs.hex.unhex.Goals as goal
 use Rattle.frames_tool.specs.Hex.{bytes_of}
@@ -12,5 +12,5 @@ loop-rest-preserved c =
     let two : 2 ≤ length rest = omega (arith, ltb-false) in
     c.loop-rest.invariant
     ∙ pair front rest c.in-Some.high c.in-Some-nibble.low two c.in-Some.ensures.is c.in-Some-nibble.ensures.is
-    ∙ ap (λ items. option_map (λ others. items ++ others) (bytes_of (drop 2 rest))) (sym c.in-ok-push.ensures.items)
+    ∙ ap (λ items. option_map (λ others. items ++ others) (bytes_of (drop 2 rest))) (sym c.in_ok-push.ensures.items)
     ∙ ap (λ l. option_map (λ others. vec_items c.push.new.self ++ others) (bytes_of l)) (sym (take_rest rest 2))

@@ -1,7 +1,7 @@
-use Rattle.std.proofs.Common.{◌≡◌, ◌+◌, ◌<◌, length, get_or, None, sym, ◌∙◌, subst, arith}
+use Rattle.std.proofs.Common.{◌+◌, ◌<◌, length, sym, ◌∙◌, subst, arith}
 use Rattle.std.proofs.lemmas.List.{length-map}
 use Rattle.std.proofs.lemmas.Bool.Decides.{not_from_Decides}
-use Rattle.model.specs.Quorums.{held, meant}
+use Rattle.model.specs.Quorums.{held}
 use Rattle.model.proofs.Backing.{Backing, backing_none, backing_takes, backing_keeps, backing_all, held_at}
 use Rattle.model.proofs.places.backers.Goals as goal
 use Rattle.model.proofs.places.backers.Goals.{then-holds, else-holds}

@@ -9,6 +9,6 @@ returns-in-Some g c =
     let places = held g.W.Word.means c.args.places.now in
     let v = g.W.Word.means c.in-Some.word.now in
     let h = sym c.in-Some.ensures in (
-      λ e. (v, h, tally_most c.args.f places v c.tally.result c.tally.ensures (leb-true _ _ (sym c.is-quorum.ensures ∙ e))),
-      λ o. c.is-quorum.ensures ∙ le-leb _ _ (most_tally c.args.f places v c.tally.result c.tally.ensures (other_ordered c.args.f places c.args.at v h o)),
+      λ e. (v, h, tally_most c.args.f places v c.tally.result c.tally.ensures (leb-true _ _ (sym c.is_quorum.ensures ∙ e))),
+      λ o. c.is_quorum.ensures ∙ le-leb _ _ (most_tally c.args.f places v c.tally.result c.tally.ensures (other_ordered c.args.f places c.args.at v h o)),
     )

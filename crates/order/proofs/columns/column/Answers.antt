@@ -1,4 +1,4 @@
-use Rattle.std.proofs.Common.{◌≡◌, ℕ, ◌+◌, ◌-◌, ◌<◌, ◌≤◌, Bool, true, false, cond, leb, sym, refl, ap, ◌∙◌, arith}
+use Rattle.std.proofs.Common.{◌≡◌, ℕ, ◌+◌, Bool, true, false, cond, leb, sym, ap, ◌∙◌, arith}
 use lib.Count.{ones}
 use Rattle.model.specs.Sets.{gathered}
 use Rattle.model.proofs.Members.{ones_none}

@@ -1,4 +1,4 @@
-use Rattle.std.proofs.Common.{min, sym, ap, ◌∙◌, arith}
+use Rattle.std.proofs.Common.{min, sym, ◌∙◌, arith}
 use Rattle.std.proofs.lemmas.List.{get_or-map, get_or_past, length-map}
 use Rattle.order.specs.Rows.{read}
 use Rattle.order.proofs.rows.entry.Goals as goal

@@ -1,5 +1,5 @@
-use Rattle.std.proofs.Common.{◌<◌, ◌≤◌, ltb, leb, sym, arith}
-use Rattle.std.proofs.lemmas.Bool.{le-leb, lt-leb, lt-ltb, le-ltb}
+use Rattle.std.proofs.Common.{ltb, sym, arith}
+use Rattle.std.proofs.lemmas.Bool.{lt-ltb, le-ltb}
 use Rattle.model.specs.Quorums.{stations}
 use Rattle.order.specs.Rows.{entry, read}
 use Rattle.order.proofs.Comparing.{any_more, any_finds}

@@ -1,21 +1,20 @@
-use Rattle.std.proofs.Common.{◌≡◌, ◌+◌, ◌<◌, ◌≤◌, [], length, get_or, take, is_some, sym, ap, ◌∙◌, subst, arith}
+use Rattle.std.proofs.Common.{◌+◌, [], length, take, is_some, sym, ap, ◌∙◌, subst, arith}
 use Rattle.std.proofs.lemmas.List.{take_more, take_all}
 use Rattle.std.proofs.lemmas.Option.{slice_get_past}
-use Rattle.std.specs.List.{slice_get}
 use Rattle.order.specs.Orders.{order}
 use Rattle.order.specs.Reaches.{Reached}
 use Rattle.order.proofs.Sequence.{order_laws}
 use Rattle.order.proofs.Spans.{found_step, nth_lt, nth_none, order-front-take}
 use Rattle.order.proofs.turns.kth.Goals as goal
 
-pub returns-then-is-some : goal.returns-then-is-some
-returns-then-is-some c =
+pub returns-then-is_some : goal.returns-then-is_some
+returns-then-is_some c =
     let f = c.args.watch.faults in
     let limit = c.args.watch.limit in
     let Xs = c.args.matrices.now in
     let i = c.loop-matrix.matrix-index in
     let e = found_step f limit Xs i c.args.k c.take-answer.result c.loop-matrix-test.true c.loop-matrix.invariant.1 (c.take-answer.ensures.follows (take i Xs) c.loop-matrix.invariant.0).1 in
-    record { laws = order_laws; answer = e ∙ sym (order-front-take f limit (i + 1) Xs c.args.k (nth_lt (order f limit (take (i + 1) Xs)) c.args.k (sym (ap is_some e) ∙ sym c.if-is-some.ensures))) }
+    record { laws = order_laws; answer = e ∙ sym (order-front-take f limit (i + 1) Xs c.args.k (nth_lt (order f limit (take (i + 1) Xs)) c.args.k (sym (ap is_some e) ∙ sym c.if-is_some.ensures))) }
 
 pub loop-matrix-preserved : goal.loop-matrix-preserved
 loop-matrix-preserved c =
@@ -26,7 +25,7 @@ loop-matrix-preserved c =
     let t = c.take-answer.ensures.follows (take i Xs) c.loop-matrix.invariant.0 in
     let e = found_step f limit Xs i c.args.k c.take-answer.result c.loop-matrix-test.true c.loop-matrix.invariant.1 t.1 in (
       subst (λ Ys. Reached f limit Ys c.take-answer.new.self) (sym (take_more Xs i [] c.loop-matrix-test.true)) t.0,
-      nth_none (order f limit (take (i + 1) Xs)) c.args.k (sym (ap is_some e) ∙ sym c.if-is-some.ensures),
+      nth_none (order f limit (take (i + 1) Xs)) c.args.k (sym (ap is_some e) ∙ sym c.if-is_some.ensures),
     )
 
 pub returns : goal.returns

@@ -1,4 +1,4 @@
-use Rattle.std.proofs.Common.{min, ◌++◌, get_or, take, drop, ap, ◌∙◌, arith, rules}
+use Rattle.std.proofs.Common.{min, ◌++◌, get_or, drop, ap, ◌∙◌, arith}
 use Rattle.rows.proofs.digits.cap.Goals as goal
 use Rattle.std.proofs.lemmas.List.Edits.{map_over_more}
 use Rattle.std.proofs.lemmas.List.{append-nil, drop_all, get_or_default, take_all}

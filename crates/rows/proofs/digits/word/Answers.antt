@@ -15,11 +15,11 @@ pub loop-k-init : goal.loop-k-init
 unfolding field_of
 loop-k-init c = refl
 
-pub overflow-mul-all : goal.overflow-mul-all
-overflow-mul-all c = omega (arith, short c.args.bytes.now (8 * c.args.from) c.loop-k.k c.loop-k-test.true)
+pub overflow_mul-all : goal.overflow_mul-all
+overflow_mul-all c = omega (arith, short c.args.bytes.now (8 * c.args.from) c.loop-k.k c.loop-k-test.true)
 
-pub overflow-add-all : goal.overflow-add-all
-overflow-add-all c = omega (arith, short c.args.bytes.now (8 * c.args.from) c.loop-k.k c.loop-k-test.true)
+pub overflow_add-all : goal.overflow_add-all
+overflow_add-all c = omega (arith, short c.args.bytes.now (8 * c.args.from) c.loop-k.k c.loop-k-test.true)
 
 pub loop-k-preserved : goal.loop-k-preserved
 loop-k-preserved c =
@@ -28,7 +28,7 @@ loop-k-preserved c =
     let k = c.loop-k.k in
     let more : 8 * (k + 1) ≡ 8 * k + 8 = omega arith in
     let place : 8 * from + 8 * k ≡ 8 * (from + k) = omega arith in
-    let digit = field_of_digit 8 bs (from + k) (omega (arith, c.type-inv.bytes (from + k))) in
+    let digit = field_of_digit 8 bs (from + k) (omega (arith, c.type_inv.bytes (from + k))) in
     let whole : field_of 8 bs (8 * from) (8 * (k + 1)) ≡ field_of 8 bs (8 * from) (8 * k) * 256 + field_of 8 bs (8 * (from + k)) 8 =
     ap (field_of 8 bs (8 * from)) more ∙ field-append 8 bs (8 * from) (8 * k) 8
     ∙ ap (λ p. field_of 8 bs (8 * from) (8 * k) * 256 + field_of 8 bs p 8) place in

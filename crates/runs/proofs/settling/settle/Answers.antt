@@ -9,7 +9,7 @@ use Rattle.std.proofs.Common.{map, ap, ◌∙◌}
 
 pub returns-in-Place : goal.returns-in-Place
 returns-in-Place g c =
-    let bits = g.Op.Operation.bits in
+    let bits = g.M.Op.Operation.bits in
     let t = c.args.t.now in
     let w = c.in-Place in
     words_set (contents bits g.M.Machine.means t) c.args.station w.at (change_by bits c.args.change) (bits w.word) (held bits c.fill.new.places)
@@ -17,7 +17,7 @@ returns-in-Place g c =
 
 pub returns-in-First : goal.returns-in-First
 returns-in-First g c =
-    let bits = g.Op.Operation.bits in
+    let bits = g.M.Op.Operation.bits in
     let t = c.args.t.now in
     let w = c.in-First in
     let after = c.fill-in-First.new.places in
@@ -26,7 +26,7 @@ returns-in-First g c =
 
 pub returns-in-Second : goal.returns-in-Second
 returns-in-Second g c =
-    let bits = g.Op.Operation.bits in
+    let bits = g.M.Op.Operation.bits in
     let t = c.args.t.now in
     let w = c.in-Second in
     let after = c.fill-in-Second.new.places in
@@ -35,7 +35,7 @@ returns-in-Second g c =
 
 pub returns-in-Keep : goal.returns-in-Keep
 returns-in-Keep g c =
-    let bits = g.Op.Operation.bits in
+    let bits = g.M.Op.Operation.bits in
     let t = c.args.t.now in
     let w = c.in-Keep in
     let after = c.keep.new.rows in

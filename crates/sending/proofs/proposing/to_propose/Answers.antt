@@ -21,7 +21,7 @@ proposal-requires g c =
 pub returns : goal.returns
 returns g c =
     let p = plan_of c.args.numbers in
-    let held = contents g.Op.Operation.bits g.M.Machine.means c.args.t.now in
+    let held = contents g.M.Op.Operation.bits g.M.Machine.means c.args.t.now in
     let i = c.in-ok-i.i in
     let q = c.in-ok-sequence.sequence in
     let fits = c.in-ok-sequence.ensures.fits in

@@ -10,13 +10,13 @@ use Rattle.std.proofs.Common.{ap, ◌∙◌, subst}
 pub returns : goal.returns
 returns g c =
     let p = plan_of c.args.numbers in
-    let held = contents g.Op.Operation.bits g.M.Machine.means c.args.t.now in
+    let held = contents g.M.Op.Operation.bits g.M.Machine.means c.args.t.now in
     let i = c.in-ok-i.i in
     let q = c.in-ok-sequence.sequence in
     let fits = c.in-ok-sequence.ensures.fits in
     record {
       is =
-          submit_sent p c.args.end held c.args.station i q (g.Op.Operation.bits c.args.u.now) (frame_of c.request.result) c.in-ok-i.ensures.is
+          submit_sent p c.args.end held c.args.station i q (g.M.Op.Operation.bits c.args.u.now) (frame_of c.request.result) c.in-ok-i.ensures.is
           c.in-ok-sequence.ensures.is (c.request.ensures ∙ ap (λ u. frame (request i c.args.numbers.watch.faults q u)) c.pack.ensures);
       fits =
           record {

@@ -5,6 +5,6 @@ use Rattle.wire.proofs.places.holding.Goals as goal
 pub returns : goal.returns
 returns c =
     let b = c.args.bytes.now in
-    let e = c.copy-from-slice.ensures.after in
-    let h : length b ≤ length c.copy-from-slice.new.self = omega (arith, ap length e) in
-    take-append-le (length b) c.copy-from-slice.new.self _ h ∙ rw e (take_all (length b) b (omega arith))
+    let e = c.copy_from_slice.ensures.after in
+    let h : length b ≤ length c.copy_from_slice.new.self = omega (arith, ap length e) in
+    take-append-le (length b) c.copy_from_slice.new.self _ h ∙ rw e (take_all (length b) b (omega arith))

@@ -10,8 +10,8 @@ returns-in-Err c = slot_empty (said_by c.args.sender c.args.faults c.args.messag
 pub returns : goal.returns
 returns c = slot_written (said_by c.args.sender c.args.faults c.args.message.now) c.in-Ok.len _ _ c.in-Ok.ensures.answer c.in-Ok.ensures.leaves
 
-pub overflow-cast-result : goal.overflow-cast-result
-overflow-cast-result c = omega (arith, (sent (said_by c.args.sender c.args.faults c.args.message.now) 194 c.in-Ok.len c.in-Ok.ensures.answer).within)
+pub overflow_cast-result : goal.overflow_cast-result
+overflow_cast-result c = omega (arith, (sent (said_by c.args.sender c.args.faults c.args.message.now) 194 c.in-Ok.len c.in-Ok.ensures.answer).within)
 
-pub invariant-of-result-2 : goal.invariant-of-result-2
-invariant-of-result-2 c = ((sent (said_by c.args.sender c.args.faults c.args.message.now) 194 c.in-Ok.len c.in-Ok.ensures.answer).within, tt)
+pub invariant_of-result-2 : goal.invariant_of-result-2
+invariant_of-result-2 c = record { fits = (sent (said_by c.args.sender c.args.faults c.args.message.now) 194 c.in-Ok.len c.in-Ok.ensures.answer).within }

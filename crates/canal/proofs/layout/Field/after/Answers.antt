@@ -1,4 +1,3 @@
-use Rattle.std.proofs.Common.{◌*◌, ◌^◌}
 use Rattle.std.proofs.lemmas.Nat.{or_shifted, shl_whole}
 use Rattle.canal.proofs.layout.Field.after.Goals as goal
 

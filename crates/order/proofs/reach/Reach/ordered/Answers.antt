@@ -1,5 +1,4 @@
-use Rattle.std.proofs.Common.{◌≡◌, suc, ◌+◌, refl, add-one, arith}
-use Rattle.order.specs.Orders.{total}
+use Rattle.std.proofs.Common.{arith}
 use Rattle.order.specs.Reaches.{kept}
 use Rattle.order.proofs.Spans.{total-more}
 use Rattle.order.proofs.reach.Reach.ordered.Goals as goal

@@ -19,7 +19,7 @@ returns c =
     elim c.if-k-ordered.branch [
       | then-k-ordered w ↦ w.answer-is ∙ sym (after_earlier (total (stations f) b) (added f limit b X) k (omega arith))
       | else-k-ordered w ↦
-          w.answer-is ∙ w.added-at-answer.ensures ∙ ap (λ m. slice_get (added f limit b X) (k - m)) c.ordered-ordered.ensures
+          w.answer-is ∙ w.added_at-answer.ensures ∙ ap (λ m. slice_get (added f limit b X) (k - m)) c.ordered-ordered.ensures
           ∙ sym (after_later (total (stations f) b) (added f limit b X) k (omega arith))
     ]
     in

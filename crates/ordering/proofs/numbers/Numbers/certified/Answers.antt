@@ -3,9 +3,9 @@ use Rattle.model.specs.Quorums.{held, stations}
 use Rattle.ordering.proofs.Indices.{held_part}
 use Rattle.ordering.proofs.numbers.Numbers.certified.Goals as goal
 use Rattle.ordering.specs.Plans.{lengths_of, plan_of}
-use Rattle.ordering.specs.Reading.{first_place, unread}
+use Rattle.ordering.specs.Reading.{unread}
 use Rattle.std.proofs.lemmas.Bool.{cond-false, le-ltb, lt-leb, or_from}
-use Rattle.std.proofs.Common.{◌≡◌, ◌||◌, eqb, ltb, leb, take, drop, sym, ap, ◌∙◌, arith}
+use Rattle.std.proofs.Common.{◌||◌, eqb, ltb, leb, take, drop, sym, ap, ◌∙◌, arith}
 
 pub returns : goal.returns
 returns g c =
@@ -16,14 +16,14 @@ returns g c =
     let i = c.args.station in
     let o = c.args.origin in
     let s = c.args.sequence in
-    let bits = g.Op.Operation.bits in
+    let bits = g.M.Op.Operation.bits in
     let f = c.args.self.watch.faults in
     let words = held bits t.words.now in
-    c.certified-in.ensures
-    ∙ ap (λ ps. certified_by eqb f (held bits ps) o) c.places-from.ensures
-    ∙ ap (λ ps. certified_by eqb f ps o) (held_part bits c.stations-n.result c.first-place-from.result t.words.now)
-    ∙ ap (λ k. certified_by eqb f (take k (drop c.first-place-from.result words)) o) c.stations-n.ensures
-    ∙ ap (λ k. certified_by eqb f (take n (drop k words)) o) c.first-place-from.ensures.is
+    c.certified_in.ensures
+    ∙ ap (λ ps. certified_by eqb f (held bits ps) o) c.places_from.ensures
+    ∙ ap (λ ps. certified_by eqb f ps o) (held_part bits c.stations-n.result c.first_place-from.result t.words.now)
+    ∙ ap (λ k. certified_by eqb f (take k (drop c.first_place-from.result words)) o) c.stations-n.ensures
+    ∙ ap (λ k. certified_by eqb f (take n (drop k words)) o) c.first_place-from.ensures.is
     ∙ sym (cond-false (leb n o || (ltb s 1 || ltb l s)) _ _
     (or_from (leb n o) (ltb s 1 || ltb l s) (lt-leb n o (omega arith)) (or_from (ltb s 1) (ltb l s) (le-ltb s 1 (omega arith)) (le-ltb l s (omega arith)))))
     ∙ sym (cond-false (unread p (lengths_of t) i) _ _ (sym c.unread.ensures.is ∙ c.if-unread.false))

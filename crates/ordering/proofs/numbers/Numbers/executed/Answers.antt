@@ -1,5 +1,4 @@
 use Rattle.std.proofs.Common.{◌≡◌, ◌+◌, ◌*◌, min, leb, map, get_or, sym, ap, ◌∙◌, arith}
-use Rattle.model.specs.Quorums.{stations}
 use Rattle.ordering.proofs.Items.{read_present}
 use Rattle.ordering.proofs.numbers.Numbers.executed.Goals as goal
 use Rattle.ordering.specs.Contents.{done_of, none}
@@ -15,10 +14,10 @@ returns g c =
     let p = plan_of c.args.self in
     let i = c.args.station in
     let k = c.args.position in
-    let done = done_of g.Op.Operation.bits in
+    let done = done_of g.M.Op.Operation.bits in
     let entries = map (option_map done) t.executed.now in
-    let by : c.executed-by.result ≡ executed_by p t.counts.now i =
-    c.executed-by.ensures ∙ ap (λ n. min (get_or t.counts.now i none).executed (n * c.args.self.watch.limit)) c.stations.ensures in
+    let by : c.executed_by.result ≡ executed_by p t.counts.now i =
+    c.executed_by.ensures ∙ ap (λ n. min (get_or t.counts.now i none).executed (n * c.args.self.watch.limit)) c.stations.ensures in
     read_present done c.present.result t.executed.now _ c.present.ensures
     ∙ ap (λ n. joined (slice_get entries (i * (n * c.args.self.watch.limit) + k))) c.stations.ensures
     ∙ sym (cond-false (leb (executed_by p t.counts.now i) k) _ _ (lt-leb (executed_by p t.counts.now i) k (omega arith)))

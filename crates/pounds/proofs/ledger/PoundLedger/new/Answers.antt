@@ -7,5 +7,5 @@ use Rattle.std.proofs.Common.{map, length, ap, ◌∙◌, arith}
 pub returns : goal.returns
 returns c = (
   grind (arith, nat_tests),
-  ap (map level_of) (take_at c.copy-from-slice.new.self _ (length c.args.pounds.now) (ap length c.copy-from-slice.ensures.after) ∙ c.copy-from-slice.ensures.after),
+  ap (map level_of) (take_at c.copy_from_slice.new.self _ (length c.args.pounds.now) (ap length c.copy_from_slice.ensures.after) ∙ c.copy_from_slice.ensures.after),
 )

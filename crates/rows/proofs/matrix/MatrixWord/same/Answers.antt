@@ -1,4 +1,4 @@
-use Rattle.std.proofs.Common.{◌≡◌, ◌-◌, ◌*◌, ◌≤◌, length, take, sym, ap, ◌∙◌, arith}
+use Rattle.std.proofs.Common.{◌≡◌, ◌-◌, ◌*◌, length, take, sym, ap, ◌∙◌, arith}
 use Rattle.rows.proofs.Cells.{side_of_square, square_fits}
 use Rattle.rows.proofs.matrix.MatrixWord.same.Goals as goal
 use Rattle.std.proofs.lemmas.Slice.Eq.{slice_eq-Decides}
@@ -6,11 +6,11 @@ use Rattle.std.proofs.lemmas.List.{length-take}
 use Rattle.std.proofs.lemmas.Bool.{eq-eqb, eqb-true}
 use Rattle.std.proofs.lemmas.Bool.Decides.{Decides-eqb}
 
-pub slice-bounds-eq-end : goal.slice-bounds-eq-end
-slice-bounds-eq-end c = omega (arith, square_fits c.args.self.now.side c.args.self.now.few)
+pub slice_bounds-eq-end : goal.slice_bounds-eq-end
+slice_bounds-eq-end c = omega (arith, square_fits c.args.self.now.side c.args.self.now.few)
 
-pub slice-bounds-eq-end-then-self-other : goal.slice-bounds-eq-end-then-self-other
-slice-bounds-eq-end-then-self-other c = omega (arith, square_fits c.args.self.now.side c.args.self.now.few)
+pub slice_bounds-eq-end-then-self-other : goal.slice_bounds-eq-end-then-self-other
+slice_bounds-eq-end-then-self-other c = omega (arith, square_fits c.args.self.now.side c.args.self.now.few)
 
 pub returns-then-self-other : goal.returns-then-self-other
 returns-then-self-other c =

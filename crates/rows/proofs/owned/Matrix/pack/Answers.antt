@@ -3,8 +3,8 @@ use Rattle.rows.proofs.Cells.{small_take, square_fits}
 use Rattle.rows.proofs.owned.Matrix.pack.Goals as goal
 use Rattle.std.proofs.lemmas.List.{length-take}
 
-pub slice-bounds-pack-end : goal.slice-bounds-pack-end
-slice-bounds-pack-end c = omega (arith, square_fits c.args.self.now.side c.args.self.now.few)
+pub slice_bounds-pack-end : goal.slice_bounds-pack-end
+slice_bounds-pack-end c = omega (arith, square_fits c.args.self.now.side c.args.self.now.few)
 
 pub pack-requires : goal.pack-requires
 pack-requires c =

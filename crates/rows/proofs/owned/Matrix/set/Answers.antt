@@ -9,11 +9,11 @@ pub bounds-self-i : goal.bounds-self-i
 bounds-self-i c =
     omega (arith, row_fits c.args.i c.args.self.now.side c.if-i-side.true, square_fits c.args.self.now.side c.args.self.now.few)
 
-pub invariant-of-self : goal.invariant-of-self
-invariant-of-self c =
+pub invariant_of-self : goal.invariant_of-self
+invariant_of-self c =
     let m = c.args.self.now in
     let at = c.args.i * m.side + c.args.j in
-    (m.few, (length-set m.cells at c.args.value ∙ m.whole, (small_set m.cells at c.args.value c.if-value-lt64.true m.small, tt)))
+    record { few = m.few; whole = length-set m.cells at c.args.value ∙ m.whole; small = small_set m.cells at c.args.value c.if-value-lt64.true m.small }
 
 pub returns-then-value-lt64 : goal.returns-then-value-lt64
 returns-then-value-lt64 c =

@@ -5,13 +5,13 @@ use Rattle.rows.specs.Bits.{entries}
 use Rattle.std.proofs.lemmas.List.FromFn.{length-map-range_with_len}
 use Rattle.std.proofs.lemmas.List.{length-replicate, length-take, take_at}
 
-pub slice-bounds-cells-end : goal.slice-bounds-cells-end
-slice-bounds-cells-end c =
+pub slice_bounds-cells-end : goal.slice_bounds-cells-end
+slice_bounds-cells-end c =
     let few : c.min-n.result ≤ 16 = omega arith in
     square_fits c.min-n.result few
 
-pub invariant-of-result : goal.invariant-of-result
-invariant-of-result c =
+pub invariant_of-result : goal.invariant_of-result
+invariant_of-result c =
     let n = c.min-n.result in
     let few : n ≤ 16 = omega arith in
     let q = square_fits n few in
@@ -19,7 +19,7 @@ invariant-of-result c =
     let within : 0 + (n * n - 0) ≤ 256 = omega arith in
     let same : length c.unpack.new.to ≡ n * n - 0 = ap length c.unpack.ensures ∙ length-map-range_with_len _ 0 _ ∙ simp (length-take, length-replicate) (omega arith) in
     let long = length_over 0 (n * n - 0) (replicate 256 0) c.unpack.new.to within same in
-    (few, (long, (small_append c.unpack.new.to _ part (small_drop (n * n - 0) (replicate 256 0) (small_zeros 256)), tt)))
+    record { few = few; whole = long; small = small_append c.unpack.new.to _ part (small_drop (n * n - 0) (replicate 256 0) (small_zeros 256)) }
 
 pub returns : goal.returns
 returns c =

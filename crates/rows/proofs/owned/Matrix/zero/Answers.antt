@@ -3,8 +3,8 @@ use Rattle.rows.proofs.Cells.{small_zeros, square_fits}
 use Rattle.rows.proofs.owned.Matrix.zero.Goals as goal
 use Rattle.std.proofs.lemmas.List.{take-replicate}
 
-pub invariant-of-result : goal.invariant-of-result
-invariant-of-result c = (omega arith, (refl, (small_zeros 256, tt)))
+pub invariant_of-result : goal.invariant_of-result
+invariant_of-result c = record { few = omega arith; whole = refl; small = small_zeros 256 }
 
 pub returns : goal.returns
 returns c =

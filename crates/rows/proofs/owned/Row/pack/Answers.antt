@@ -1,4 +1,4 @@
-use Rattle.std.proofs.Common.{◌-◌, ◌*◌, arith}
+use Rattle.std.proofs.Common.{◌-◌, arith}
 use Rattle.rows.proofs.Cells.{small_take}
 use Rattle.rows.proofs.owned.Row.pack.Goals as goal
 use Rattle.std.proofs.lemmas.List.{length-take}

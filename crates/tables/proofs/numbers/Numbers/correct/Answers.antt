@@ -10,7 +10,7 @@ returns g c =
     let p = plan_of c.args.self in
     let i = c.args.station in
     record {
-      is = c.station.ensures.is ∙ ap (λ b. station_in p (lengths_of t) i b) c.names.ensures ∙ ap (λ l. correct_in p l i) (sym (same_lengths g.Op.Operation.bits g.M.Machine.means t));
+      is = c.station.ensures.is ∙ ap (λ b. station_in p (lengths_of t) i b) c.names.ensures ∙ ap (λ l. correct_in p l i) (sym (same_lengths g.M.Op.Operation.bits g.M.Machine.means t));
       ready = c.station.ensures.ready;
       same = c.station.ensures.same;
     }

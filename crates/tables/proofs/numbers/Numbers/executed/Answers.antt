@@ -15,10 +15,10 @@ returns g c =
     let p = plan_of c.args.self in
     let i = c.args.station in
     let k = c.args.position in
-    let done = done_of g.Op.Operation.bits in
+    let done = done_of g.M.Op.Operation.bits in
     let entries = map (option_map done) t.executed.now in
-    let by : c.executed-by.result ≡ executed_by p t.counts.now i =
-    c.executed-by.ensures ∙ ap (λ n. min (get_or t.counts.now i none).executed (n * c.args.self.watch.limit)) c.stations.ensures in
+    let by : c.executed_by.result ≡ executed_by p t.counts.now i =
+    c.executed_by.ensures ∙ ap (λ n. min (get_or t.counts.now i none).executed (n * c.args.self.watch.limit)) c.stations.ensures in
     read_present done c.present.result t.executed.now _ c.present.ensures
     ∙ ap (λ n. joined (slice_get entries (i * (n * c.args.self.watch.limit) + k))) c.stations.ensures
     ∙ sym (cond-false (leb (executed_by p t.counts.now i) k) _ _ (lt-leb (executed_by p t.counts.now i) k (omega arith)))

@@ -7,4 +7,4 @@ use Rattle.std.proofs.Common.{sym, ap, ◌∙◌}
 pub returns : goal.returns
 returns g c =
     let n = c.args.self in
-    c.too-short.ensures.is ∙ ap (short (stations n.watch.faults) n.watch.limit n.wire) (sym (same_lengths g.Op.Operation.bits g.M.Machine.means c.args.t.now))
+    c.too_short.ensures.is ∙ ap (short (stations n.watch.faults) n.watch.limit n.wire) (sym (same_lengths g.M.Op.Operation.bits g.M.Machine.means c.args.t.now))
