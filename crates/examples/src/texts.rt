@@ -23,12 +23,12 @@ fn two_numbers(rt: HostRuntime) {
 #[test]
 fn first_lines(rt: HostRuntime) {
     let (line, rest) = split_line(b"12 1\n\nx");
-    assert_eq!(rt; line, b"12 1");
-    assert_eq!(rt; rest, b"\nx");
+    assert_eq!(rt; line, b"12 1".as_slice());
+    assert_eq!(rt; rest, b"\nx".as_slice());
     let (line, rest) = split_line(rest);
-    assert_eq!(rt; line, b"");
-    assert_eq!(rt; rest, b"x");
+    assert_eq!(rt; line, b"".as_slice());
+    assert_eq!(rt; rest, b"x".as_slice());
     let (line, rest) = split_line(rest);
-    assert_eq!(rt; line, b"x");
+    assert_eq!(rt; line, b"x".as_slice());
     assert!(rt; rest.is_empty());
 }
