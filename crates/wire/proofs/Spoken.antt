@@ -1,12 +1,12 @@
 -- Frames on the wire, and the rows that a proposal may have.
-use Rattle.std.proofs.Common.{◌≡◌, ℕ, ◌+◌, ◌*◌, ◌<◌, ◌≤◌, Bool, true, false, List, [], length, get_or, take, drop, Decides, sym, ap, ◌∙◌, arith, rules}
+use Rattle.std.proofs.Common.{◌≡◌, ℕ, ◌+◌, ◌*◌, ◌<◌, ◌≤◌, Bool, true, false, eqb, List, [], length, get_or, take, drop, Decides, sym, ap, ◌∙◌, arith, rules}
 use Rattle.order.proofs.Comparing.{any_finds, any_more}
 use Rattle.rows.proofs.Cells.{row_fits, row_whole, square_fits}
 use Rattle.rows.specs.Values.{row_in}
 use Rattle.std.proofs.lemmas.Slice.Eq.{IsBytesEq, compares_Decides, slice_eq-Decides}
 use Rattle.std.proofs.lemmas.List.{length-drop, length-take-le}
 use Rattle.std.proofs.lemmas.Bool.Decides.{same_from_decides, Decides-eqb}
-use Rattle.std.specs.Cmp.Lexicographic.{Matches}
+use Rattle.std.specs.Cmp.Lexicographic.{pointwise}
 use Rattle.order.specs.Rows.{any}
 use Rattle.wire.specs.Wires.{on_wire, same_list}
 
@@ -15,7 +15,7 @@ compares = search rules
 
 -- What `==` answers at two lists of bytes.
 abbrev pub Equals : List ℕ → List ℕ → Bool → Type 0
-Equals xs ys r = Matches (λ (a b : ℕ) (t : Bool). Decides t (a ≡ b)) xs ys r
+Equals xs ys r = r ≡ pointwise eqb xs ys
 
 same_list_lem : (xs ys at : List ℕ) (r : Bool) → Equals xs ys r → xs ≡ at → r ≡ same_list at ys
 same_list_lem xs ys at r m e =
