@@ -8,26 +8,26 @@ use Rattle.tables.specs.Contents.{frame_of}
 use Rattle.tables.specs.Plans.{lengths_of, plan_of}
 use Rattle.std.proofs.Common.{◌≡◌, map}
 
-pub returns-in-err-at : goal.returns-in-err-at
-returns-in-err-at g c =
-    let r = c.from-residual.result in
-    let e = err_from_is_err_and r c.from-residual.ensures.1 in
+pub returns-in_err-at : goal.returns-in_err-at
+returns-in_err-at g c =
+    let r = c.from_residual.result in
+    let e = err_from_is_err_and r c.from_residual.ensures.1 in
     record {
       means =
           no_station g.M.Op.Operation.refused g.M.Op.Operation.bits g.M.Machine.means (plan_of c.args.numbers) c.args.end c.args.t.now c.args.station c.args.place
-          r e.0 c.in-err-at.field-0.0 e.1 e.2 c.in-err-at.ensures.is;
-      fits = IfOk-from_err r (Fits (plan_of c.args.numbers) c.args.end (lengths_of c.args.t.now) c.args.station) c.from-residual.ensures.0;
+          r e.0 c.in_err-at.field-0.0 e.1 e.2 c.in_err-at.ensures.is;
+      fits = IfOk-from_err r (Fits (plan_of c.args.numbers) c.args.end (lengths_of c.args.t.now) c.args.station) c.from_residual.ensures.0;
     }
 
-pub returns-in-err-frame : goal.returns-in-err-frame
-returns-in-err-frame g c =
-    let r = c.from-residual-in-err-frame.result in
-    let e = err_from_is_err_and {Q = λ y. y ≡ c.in-err-frame.field-0.0} r c.from-residual-in-err-frame.ensures.1 in
+pub returns-in_err-frame : goal.returns-in_err-frame
+returns-in_err-frame g c =
+    let r = c.from_residual-in_err-frame.result in
+    let e = err_from_is_err_and {Q = λ y. y ≡ c.in_err-frame.field-0.0} r c.from_residual-in_err-frame.ensures.1 in
     record {
       means =
           no_frame g.M.Op.Operation.refused g.M.Op.Operation.bits g.M.Machine.means (plan_of c.args.numbers) c.args.end c.args.t.now c.args.station c.args.place
-          c.in-ok-at.at c.in-ok-at.ensures.is r e.0 c.in-err-frame.field-0.0 e.1 e.2 c.in-err-frame.ensures.means;
-      fits = IfOk-from_err r (Fits (plan_of c.args.numbers) c.args.end (lengths_of c.args.t.now) c.args.station) c.from-residual-in-err-frame.ensures.0;
+          c.in_ok-at.at c.in_ok-at.ensures.is r e.0 c.in_err-frame.field-0.0 e.1 e.2 c.in_err-frame.ensures.means;
+      fits = IfOk-from_err r (Fits (plan_of c.args.numbers) c.args.end (lengths_of c.args.t.now) c.args.station) c.from_residual-in_err-frame.ensures.0;
     }
 
 pub returns-then-misnamed : goal.returns-then-misnamed
@@ -35,16 +35,16 @@ returns-then-misnamed g c =
     record {
       means =
           wrong_sender g.M.Op.Operation.refused g.M.Op.Operation.bits g.M.Machine.means (plan_of c.args.numbers) c.args.end c.args.t.now c.args.station c.args.place
-          c.in-ok-at.at c.in-ok-at.ensures.is (said_of c.in-ok-frame.frame) c.misnamed.result c.in-ok-frame.ensures.means
+          c.in_ok-at.at c.in_ok-at.ensures.is (said_of c.in_ok-frame.frame) c.misnamed.result c.in_ok-frame.ensures.means
           c.misnamed.ensures c.new.result c.if-misnamed.true c.new.ensures;
       fits = tt;
     }
 
 pub hear-delivery-requires : goal.hear-delivery-requires
 hear-delivery-requires g c =
-    let f = c.in-ok-frame in
+    let f = c.in_ok-frame in
     record {
-      ready = c.in-ok-at.ensures.ready;
+      ready = c.in_ok-at.ensures.ready;
       sound = f.ensures.sound;
       ours = f.ensures.ours;
       accepted =
@@ -52,14 +52,14 @@ hear-delivery-requires g c =
           f.ensures.means;
     }
 
-pub returns-then-lacks-places : goal.returns-then-lacks-places
-returns-then-lacks-places g c =
+pub returns-then-lacks_places : goal.returns-then-lacks_places
+returns-then-lacks_places g c =
     record {
       means =
           wire_full g.M.Op.Operation.refused g.M.Op.Operation.bits g.M.Machine.means (plan_of c.args.numbers) c.args.end c.args.t.now c.args.station c.args.place
-          c.in-ok-at.at c.in-ok-at.ensures.is (said_of c.in-ok-frame.frame) c.misnamed.result c.in-ok-frame.ensures.means
-          c.misnamed.ensures c.lacks-places.result (told_by g.M.Op.Operation.bits c.hear-delivery.result) c.if-misnamed.false c.hear-delivery.ensures.tells
-          c.lacks-places.ensures c.new-then-lacks-places.result c.if-lacks-places.true c.new-then-lacks-places.ensures;
+          c.in_ok-at.at c.in_ok-at.ensures.is (said_of c.in_ok-frame.frame) c.misnamed.result c.in_ok-frame.ensures.means
+          c.misnamed.ensures c.lacks_places.result (told_by g.M.Op.Operation.bits c.hear-delivery.result) c.if-misnamed.false c.hear-delivery.ensures.tells
+          c.lacks_places.ensures c.new-then-lacks_places.result c.if-lacks_places.true c.new-then-lacks_places.ensures;
       fits = tt;
     }
 
@@ -68,10 +68,10 @@ returns g c =
     record {
       means =
           delivered g.M.Op.Operation.refused g.M.Op.Operation.bits g.M.Machine.means (plan_of c.args.numbers) c.args.end c.args.t.now c.args.station c.args.place
-          c.in-ok-at.at c.in-ok-at.ensures.is (said_of c.in-ok-frame.frame) c.misnamed.result c.in-ok-frame.ensures.means
-          c.misnamed.ensures c.lacks-places.result (told_by g.M.Op.Operation.bits c.hear-delivery.result) c.if-misnamed.false c.hear-delivery.ensures.tells
-          c.lacks-places.ensures c.if-lacks-places.false;
+          c.in_ok-at.at c.in_ok-at.ensures.is (said_of c.in_ok-frame.frame) c.misnamed.result c.in_ok-frame.ensures.means
+          c.misnamed.ensures c.lacks_places.result (told_by g.M.Op.Operation.bits c.hear-delivery.result) c.if-misnamed.false c.hear-delivery.ensures.tells
+          c.lacks_places.ensures c.if-lacks_places.false;
       fits =
-          fits_so (plan_of c.args.numbers) c.args.end (lengths_of c.args.t.now) c.args.station c.in-ok-at.at c.hear-delivery.result c.lacks-places.result
-          c.in-ok-at.ensures.same c.in-ok-at.ensures.ready c.hear-delivery.ensures.placed c.lacks-places.ensures c.if-lacks-places.false;
+          fits_so (plan_of c.args.numbers) c.args.end (lengths_of c.args.t.now) c.args.station c.in_ok-at.at c.hear-delivery.result c.lacks_places.result
+          c.in_ok-at.ensures.same c.in_ok-at.ensures.ready c.hear-delivery.ensures.placed c.lacks_places.ensures c.if-lacks_places.false;
     }

@@ -7,6 +7,6 @@ use Rattle.std.proofs.Common.{ap, ◌∙◌}
 
 pub returns : goal.returns
 returns c =
-    met matrix_of matrix_of same_list tells_lists (λ u v e. e) (λ u v e. e) c.as-ref.result c.args.matrix.now c.meet.result c.meet.ensures
+    met matrix_of matrix_of same_list tells_lists (λ u v e. e) (λ u v e. e) c.as_ref.result c.args.matrix.now c.meet.result c.meet.ensures
     ∙ ap (λ o. meets same_list o (matrix_of c.args.matrix.now))
-    (lent matrix_of c.as-ref.result c.capped-at-held.result c.as-ref.ensures.value ∙ c.capped-at-held.ensures)
+    (lent matrix_of c.as_ref.result c.capped_at-held.result c.as_ref.ensures.value ∙ c.capped_at-held.ensures)

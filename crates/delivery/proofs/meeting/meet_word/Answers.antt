@@ -9,5 +9,5 @@ returns g c =
     let means = g.O.Word.means in
     let bits = g.O.Operation.bits in
     let one = g.met.O.Operation.one in
-    met means bits eqb Decides-eqb one g.met.O.Operation.apart c.word-at.result c.args.word.now c.meet.result c.meet.ensures
-    ∙ ap (λ o. meets eqb o (bits c.args.word.now)) (read_by means bits one c.word-at.result c.args.words.now c.args.at c.word-at.ensures)
+    met means bits eqb Decides-eqb one g.met.O.Operation.apart c.word_at.result c.args.word.now c.meet.result c.meet.ensures
+    ∙ ap (λ o. meets eqb o (bits c.args.word.now)) (read_by means bits one c.word_at.result c.args.words.now c.args.at c.word_at.ensures)

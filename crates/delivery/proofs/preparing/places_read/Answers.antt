@@ -8,8 +8,8 @@ loop-k-init c = (refl, λ j h. absurd (omega arith))
 
 pub loop-k-preserved : goal.loop-k-preserved
 loop-k-preserved c = (
-  length-set c.loop-k.places c.loop-k.k c.capped-at.result ∙ c.loop-k.invariant.0,
-  places_more c.args.votes.now c.loop-k.places c.args.from c.loop-k.k c.args.limit c.capped-at.result (omega arith) c.loop-k.invariant.1 c.capped-at.ensures,
+  length-set c.loop-k.places c.loop-k.k c.capped_at.result ∙ c.loop-k.invariant.0,
+  places_more c.args.votes.now c.loop-k.places c.args.from c.loop-k.k c.args.limit c.capped_at.result (omega arith) c.loop-k.invariant.1 c.capped_at.ensures,
 )
 
 pub returns : goal.returns

@@ -3,4 +3,4 @@ use Rattle.delivery.proofs.preparing.prepared.Goals as goal
 use Rattle.std.proofs.Common.{◌∙◌}
 
 pub returns : goal.returns
-returns c = c.is-some.ensures ∙ found c.args.f c.args.leader c.args.places.now c.certified.result c.certified.ensures
+returns c = c.is_some.ensures ∙ found c.args.f c.args.leader c.args.places.now c.certified.result c.certified.ensures

@@ -22,8 +22,8 @@ loop-k-init c =
       },
     )
 
-pub kept-entry-value-requires : goal.kept-entry-value-requires
-kept-entry-value-requires c =
+pub kept_entry-value-requires : goal.kept_entry-value-requires
+kept_entry-value-requires c =
     let m = c.stations-n.result in
     let at = cell m c.loop-k.k c.loop-k-test.true in
     let all : m ≡ stations c.args.numbers.watch.faults = c.stations-n.ensures in
@@ -39,8 +39,8 @@ loop-k-preserved c =
     let all : m ≡ n = c.stations-n.ensures in
     let side = c.loop-k.invariant.0 in
     let s = c.loop-k.matrix.side in
-    let v = c.kept-entry-value.result in
-    let few = c.kept-entry-value.ensures.few in
+    let v = c.kept_entry-value.result in
+    let few = c.kept_entry-value.ensures.few in
     let row = at.row in
     let column = at.column in
     let low : k < n * n = subst (λ m. k < m * m) all c.loop-k-test.true in
@@ -52,7 +52,7 @@ loop-k-preserved c =
           (matrix_of c.set.new.self) c.loop-k.invariant.1 low
           (c.set.ensures.answer ∙ and_from (ltb (k / m) s) (ltb (k % m) s && ltb v 64) (lt-ltb (k / m) s r) (and_from (ltb (k % m) s) (ltb v 64) (lt-ltb (k % m) s o) (lt-ltb v 64 small)))
           (ap (λ x. k / m * x + k % m) (side ∙ sym all) ∙ at.whole)
-          (c.kept-entry-value.ensures.is ∙ ap (λ x. kept_entry (plan_of c.args.numbers) (map row_of c.args.table.now) c.args.i (k / x) (k % x)) all) c.set.ensures.means,
+          (c.kept_entry-value.ensures.is ∙ ap (λ x. kept_entry (plan_of c.args.numbers) (map row_of c.args.table.now) c.args.i (k / x) (k % x)) all) c.set.ensures.means,
     )
 
 pub returns : goal.returns

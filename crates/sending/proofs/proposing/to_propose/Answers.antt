@@ -13,25 +13,25 @@ use Rattle.tables.specs.Stations.{Ready}
 pub proposal-requires : goal.proposal-requires
 proposal-requires g c =
     record {
-      sender = c.in-ok-i.ensures.ready.known;
-      sequence = c.in-ok-sequence.ensures.fits.1;
-      side = ap length c.kept-rows-matrix.ensures ∙ length-map-range_with_len _ 0 (stations c.args.numbers.watch.faults * stations c.args.numbers.watch.faults);
+      sender = c.in_ok-i.ensures.ready.known;
+      sequence = c.in_ok-sequence.ensures.fits.1;
+      side = ap length c.kept_rows-matrix.ensures ∙ length-map-range_with_len _ 0 (stations c.args.numbers.watch.faults * stations c.args.numbers.watch.faults);
     }
 
 pub returns : goal.returns
 returns g c =
     let p = plan_of c.args.numbers in
     let held = contents g.M.Op.Operation.bits g.M.Machine.means c.args.t.now in
-    let i = c.in-ok-i.i in
-    let q = c.in-ok-sequence.sequence in
-    let fits = c.in-ok-sequence.ensures.fits in
+    let i = c.in_ok-i.i in
+    let q = c.in_ok-sequence.sequence in
+    let fits = c.in_ok-sequence.ensures.fits in
     record {
       is =
-          propose_sent p c.args.end c.args.last held c.args.station i q (frame_of c.proposal.result) c.in-ok-i.ensures.is
-          c.in-ok-sequence.ensures.is (c.proposal.ensures ∙ ap (λ m. frame (proposal i c.args.numbers.watch.faults q m)) c.kept-rows-matrix.ensures);
+          propose_sent p c.args.end c.args.last held c.args.station i q (frame_of c.proposal.result) c.in_ok-i.ensures.is
+          c.in_ok-sequence.ensures.is (c.proposal.ensures ∙ ap (λ m. frame (proposal i c.args.numbers.watch.faults q m)) c.kept_rows-matrix.ensures);
       fits =
           record {
-            ready = subst (Ready p (lengths_of c.args.t.now)) c.in-ok-i.ensures.same c.in-ok-i.ensures.ready;
+            ready = subst (Ready p (lengths_of c.args.t.now)) c.in_ok-i.ensures.same c.in_ok-i.ensures.ready;
             free = fits.0;
             number = fits.1.1;
           };

@@ -11,16 +11,16 @@ pub returns : goal.returns
 returns g c =
     let p = plan_of c.args.numbers in
     let held = contents g.M.Op.Operation.bits g.M.Machine.means c.args.t.now in
-    let i = c.in-ok-i.i in
-    let q = c.in-ok-sequence.sequence in
-    let fits = c.in-ok-sequence.ensures.fits in
+    let i = c.in_ok-i.i in
+    let q = c.in_ok-sequence.sequence in
+    let fits = c.in_ok-sequence.ensures.fits in
     record {
       is =
-          submit_sent p c.args.end held c.args.station i q (g.M.Op.Operation.bits c.args.u.now) (frame_of c.request.result) c.in-ok-i.ensures.is
-          c.in-ok-sequence.ensures.is (c.request.ensures ∙ ap (λ u. frame (request i c.args.numbers.watch.faults q u)) c.pack.ensures);
+          submit_sent p c.args.end held c.args.station i q (g.M.Op.Operation.bits c.args.u.now) (frame_of c.request.result) c.in_ok-i.ensures.is
+          c.in_ok-sequence.ensures.is (c.request.ensures ∙ ap (λ u. frame (request i c.args.numbers.watch.faults q u)) c.pack.ensures);
       fits =
           record {
-            ready = subst (Ready p (lengths_of c.args.t.now)) c.in-ok-i.ensures.same c.in-ok-i.ensures.ready;
+            ready = subst (Ready p (lengths_of c.args.t.now)) c.in_ok-i.ensures.same c.in_ok-i.ensures.ready;
             free = fits.0;
             number = fits.1.1;
           };

@@ -23,9 +23,9 @@ loop-origin-preserved g c =
     let n = stations c.args.numbers.watch.faults in
     let all : c.stations-n.result ≡ n = c.stations-n.ensures in
     let side = c.loop-origin.invariant.0 in
-    let few = c.certified-run.ensures.few in
+    let few = c.certified_run.ensures.few in
     let origin = c.loop-origin.origin in
-    let v = c.certified-run.result in
+    let v = c.certified_run.result in
     let below : origin < n = omega arith in
     let here : origin < c.loop-origin.row.side = omega arith in
     let small : v < 64 = omega arith in (
@@ -33,7 +33,7 @@ loop-origin-preserved g c =
       filled_more (certified_run (plan_of c.args.numbers) (held g.O.Operation.bits c.args.words.now) c.args.i) n origin origin v c.set.result (row_of c.loop-origin.row)
           (row_of c.set.new.self) c.loop-origin.invariant.1 below
           (c.set.ensures.answer ∙ and_from (ltb origin c.loop-origin.row.side) (ltb v 64) (lt-ltb origin c.loop-origin.row.side here) (lt-ltb v 64 small)) refl
-          c.certified-run.ensures.is c.set.ensures.means,
+          c.certified_run.ensures.is c.set.ensures.means,
     )
 
 pub returns : goal.returns

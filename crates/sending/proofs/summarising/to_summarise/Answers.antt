@@ -13,6 +13,6 @@ use Rattle.std.proofs.Common.{length, ap, ◌∙◌, subst}
 pub summary-requires : goal.summary-requires
 summary-requires g c =
     record {
-      sender = c.in-ok-i.ensures.ready.known;
-      side = ap length c.row-at-row.ensures ∙ length-map-range_with_len _ 0 (stations c.args.numbers.watch.faults);
+      sender = c.in_ok-i.ensures.ready.known;
+      side = ap length c.row_at-row.ensures ∙ length-map-range_with_len _ 0 (stations c.args.numbers.watch.faults);
     }
