@@ -4,7 +4,7 @@ pub loop-station-init : goal.loop-station-init
 loop-station-init g c = λ start past. past
 
 pub loop-station-preserved : goal.loop-station-preserved
-loop-station-preserved g c = λ start past. c.hand-over.ensures start (c.loop-station.invariant start past)
+loop-station-preserved g c = λ start past. c.hand_over.ensures start (c.loop-station.invariant start past)
 
 pub returns : goal.returns
 returns g c = c.loop-station.invariant

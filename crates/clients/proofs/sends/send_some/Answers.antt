@@ -11,7 +11,7 @@ returns g c =
     let means = g.M.Machine.means in
     let t = c.args.t.now in
     let n = c.args.numbers in
-    let fitted = c.in-ok-fitted.fitted in
+    let fitted = c.in_ok-fitted.fitted in
     let run = c.in-Ok.run' in
     let t0 = c.open.new.t in
     let r0 = run_of bits means run t0 in
@@ -25,5 +25,5 @@ returns g c =
     (extend (summarises 2) placed c.summarise.result r2 r3 c.summarise.ensures
     (extend (submits 1 u) sent_as c.submit-2.result r1 r2 c.submit-2.ensures
     (extend (submits 0 u) sent_as c.submit.result r0 r1 c.submit.ensures
-    (begin n.0 n.1 n.2 n.3 (lengths_of t) (lengths_of t) (plan_of fitted.numbers) (contents bits means t) (contents bits means t0) run c.in-ok-fitted.ensures
+    (begin n.0 n.1 n.2 n.3 (lengths_of t) (lengths_of t) (plan_of fitted.numbers) (contents bits means t) (contents bits means t0) run c.in_ok-fitted.ensures
     (same_lengths bits means t) c.in-Ok.ensures)))))
