@@ -1,5 +1,5 @@
 -- The votes on a number as they are read, and the certificate among them.
-use Rattle.std.proofs.Common.{◌≡◌, ℕ, ◌+◌, ◌-◌, ◌<◌, ◌≤◌, Bool, true, false, cond, ◌≢◌, List, [], ◌∷◌, length, get_or, take, drop, set, is_some, Some, None, Option, sym, refl, ap, ◌∙◌, subst, inl, inr, arith, Bor, below_more}
+use Rattle.std.proofs.Common.{◌≡◌, ℕ, ◌+◌, ◌-◌, ◌<◌, ◌≤◌, Bool, false, cond, ◌≢◌, List, [], ◌∷◌, length, get_or, take, drop, set, is_some, Some, None, Option, sym, refl, ap, ◌∙◌, subst, inl, inr, arith, Bor, below_more}
 use Rattle.delivery.proofs.Outcomes.{get_d_held, tells_lists}
 use Rattle.delivery.specs.Deliveries.{commits, first_vote, prepared_at, votes_at}
 use Rattle.delivery.specs.Tellings.{newly}

@@ -4,10 +4,8 @@ use Rattle.delivery.specs.declared.outcome.Outcome.{Outcome}
 use Rattle.delivery.specs.declared.outcome.Outcome.TheVariants.{Taken, Known, TwoFaced}
 use Rattle.frames.specs.Said as said
 use Rattle.frames.specs.Said.{Said}
-use Rattle.frames.specs.Writing.{frame}
 use Rattle.model.specs.Decided.{certified_by}
 use Rattle.model.specs.Quorums.{held, meant, stations}
-use Rattle.model.specs.Sets.{joined}
 use Rattle.model.specs.declared.fault.Fault.{Fault}
 use Rattle.model.specs.declared.fault.Reason.TheVariants.{WireFull, WrongSender}
 use Rattle.order.specs.Rows.{read, standing}

@@ -1,5 +1,5 @@
 -- One change of the tables, table by table.
-use Rattle.std.proofs.Common.{◌≡◌, ℕ, List, map, set, Some, Option, sym, ap, ◌∙◌}
+use Rattle.std.proofs.Common.{◌≡◌, ℕ, List, set, Some, Option, sym, ap, ◌∙◌}
 use Rattle.delivery.specs.Deliveries.{Change, first, keep, place, second}
 use Rattle.model.specs.Quorums.{held, meant}
 use Rattle.runs.specs.Perform.{changed}

@@ -1,17 +1,14 @@
 -- How a client shows that its run has a past: one line for each call.
-use Rattle.std.proofs.Common.{◌≡◌, ℕ, false, [], Ok, Err, Option, Result, sym, ap, ◌∙◌, subst}
+use Rattle.std.proofs.Common.{◌≡◌, ℕ, [], Ok, Err, Option, Result, sym, ap, ◌∙◌, subst}
 use Rattle.model.specs.Quorums.{stations}
 use Rattle.model.specs.declared.fault.Fault.{Fault}
 use Rattle.runs.specs.Opening.{Opens}
-use Rattle.runs.specs.Pasts.{HasPast, Life, Log, Past, called, ended, is_closed, is_open, left_by, logged, opened}
-use Rattle.runs.specs.Perform.{Answer, Call, Does, Done, perform, run_of}
-use Rattle.runs.specs.declared.life.Declined.{Declined}
+use Rattle.runs.specs.Pasts.{HasPast, Past, called, ended, is_closed, is_open, left_by, logged, opened}
+use Rattle.runs.specs.Perform.{Answer, Call, Does, Done, perform}
 use Rattle.runs.specs.declared.life.Open.{Open}
-use Rattle.tables.proofs.Lengths.{same_lengths}
-use Rattle.tables.specs.Contents.{Contents, contents, opened_on}
-use Rattle.tables.specs.Plans.{Lengths, Plan, fitted, lengths_of, plan_of, short}
+use Rattle.tables.specs.Contents.{Contents}
+use Rattle.tables.specs.Plans.{Lengths, Plan, fitted, plan_of, short}
 use Rattle.tables.specs.Runs.{Run, lengths_in}
-use Rattle.tables.specs.declared.tables.Tables.{Tables}
 
 left : {Q X : Type 0} (answers : X → Answer) (done : Result (Done Q) Fault) (x : Result X Fault) (r r' : Run Q) → Does answers done x r r' → left_by done r ≡ r'
 left answers done (Ok x) r r' e = ap (λ d. left_by d r) e

@@ -1,5 +1,5 @@
 -- What opening a fitted run answers and leaves.
-use Rattle.std.specs.Prelude.{◌≡◌, ℕ, true, false, Ok, Err, Result}
+use Rattle.std.specs.Prelude.{◌≡◌, true, false, Ok, Err, Result}
 use Rattle.model.specs.Faults.{fault}
 use Rattle.model.specs.Quorums.{stations}
 use Rattle.model.specs.declared.fault.Reason.TheVariants.{ShortTable}

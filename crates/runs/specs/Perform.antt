@@ -1,5 +1,5 @@
 -- The calls on an open run: what each answers, and what it leaves.
-use Rattle.std.specs.Prelude.{◌≡◌, ℕ, ◌+◌, List, [], ◌∷◌, length, set, Some, Ok, Err, Option, Result, slice_index, slice_index_or, slice_set}
+use Rattle.std.specs.Prelude.{◌≡◌, ℕ, ◌+◌, List, [], ◌∷◌, length, Some, Ok, Err, Option, Result, slice_index, slice_index_or, slice_set}
 use Rattle.delivery.specs.Deliveries.{Change, accuse, delivery, first, keep, nothing, place, second}
 use Rattle.delivery.specs.Tellings.{Told, told}
 use Rattle.delivery.specs.declared.outcome.Outcome.{Outcome}

@@ -1,5 +1,5 @@
 -- Decisions in stages are the definitions.
-use Rattle.std.proofs.Common.{◌≡◌, ℕ, ◌+◌, List, Ok, Err, Result, ap, ◌∙◌}
+use Rattle.std.proofs.Common.{◌≡◌, ℕ, List, Ok, Result, ap, ◌∙◌}
 use Rattle.frames.specs.Said.{proposal, request}
 use Rattle.frames.specs.Writing.{frame}
 use Rattle.model.specs.declared.fault.Fault.{Fault}
@@ -7,7 +7,7 @@ use Rattle.sending.specs.Sends.{Out, kept_rows, number_by, proposal_by, request_
 use Rattle.tables.proofs.Stages.{staged}
 use Rattle.tables.specs.Contents.{Contents}
 use Rattle.tables.specs.Plans.{Plan}
-use Rattle.tables.specs.Refusing.{seen_as, then}
+use Rattle.tables.specs.Refusing.{seen_as}
 use Rattle.tables.specs.Runs.{lengths_in}
 use Rattle.tables.specs.Stations.{correct_in}
 

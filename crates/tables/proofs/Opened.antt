@@ -1,7 +1,7 @@
 -- Tables cleared one after the other are those of an opened run.
 use Rattle.std.proofs.Common.{◌≡◌, ℕ, zero, suc, List, ◌∷◌, ◌++◌, map, drop, replicate, Option, sym, refl, ap, ◌∙◌}
 use Rattle.tables.specs.Cleared.{front}
-use Rattle.tables.specs.Contents.{Contents, Done, opened_on}
+use Rattle.tables.specs.Contents.{Contents, opened_on}
 use Rattle.tables.specs.Plans.{Plan}
 use Rattle.tables.specs.declared.tables.Counts.{Counts}
 use Rattle.std.proofs.lemmas.List.{drop-map, map-append}

@@ -1,7 +1,7 @@
 -- Answers that are made in stages.
 use Rattle.model.specs.declared.fault.Fault.{Fault}
-use Rattle.std.proofs.Common.{◌≡◌, Ok, Err, Result, sym, refl, ap, ◌∙◌}
-use Rattle.tables.specs.Refusing.{seen_as, then}
+use Rattle.std.proofs.Common.{◌≡◌, Ok, Err, Result, ap, ◌∙◌}
+use Rattle.tables.specs.Refusing.{then}
 
 -- The first stage accepts, and the next one answers.
 pub staged : {X Y : Type 0} (first : Result X Fault) (x : X) (next : X → Result Y Fault) (r : Result Y Fault) → Ok x ≡ first → r ≡ next x → r ≡ then first next

@@ -1,5 +1,5 @@
 -- The numbers of a run, and when tables will do for it.
-use Rattle.std.specs.Prelude.{ℕ, ◌+◌, ◌*◌, ◌^◌, ◌≤◌, min, Bool, ◌||◌, length, Ok, Err, Result, count_ones, nat_le, nat_lt}
+use Rattle.std.specs.Prelude.{ℕ, ◌*◌, ◌^◌, ◌≤◌, min, Bool, ◌||◌, length, Ok, Result, count_ones, nat_le, nat_lt}
 use Rattle.model.specs.Quorums.{stations}
 use Rattle.model.specs.declared.fault.Fault.{Fault}
 use Rattle.model.specs.declared.fault.Reason.TheVariants.{FaultBound, WatchLength, Leader, FaultySet, ShortTable}

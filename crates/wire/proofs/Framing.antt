@@ -1,11 +1,11 @@
 -- Frames fit into the places of the wire.
-use Rattle.std.proofs.Common.{◌≡◌, ℕ, ◌+◌, ◌*◌, ◌/◌, ◌<◌, ◌≤◌, List, [], ◌++◌, length, take, drop, Some, None, Ok, Err, Option, sym, refl, ap, ◌∙◌, mul-le-mul, arith}
-use Rattle.frames.proofs.Headers.{Heads, heads}
+use Rattle.std.proofs.Common.{◌≡◌, ℕ, ◌*◌, ◌≤◌, List, [], ◌++◌, length, take, drop, Some, None, Ok, Err, Option, sym, refl, ap, ◌∙◌, mul-le-mul, arith}
+use Rattle.frames.proofs.Headers.{heads}
 use Rattle.frames.proofs.Judging.{or_none}
 use Rattle.frames.proofs.Sending.{frame_long, sent, written_whole}
 use Rattle.frames.specs.Kinds.{head_fault, size, stations}
 use Rattle.frames.specs.Said.{Said}
-use Rattle.frames.specs.Writing.{faults_of, fitting, frame, kind_of, part_unfit, sender_of, sequence_of, unfit, written}
+use Rattle.frames.specs.Writing.{faults_of, frame, kind_of, part_unfit, sender_of, sequence_of, unfit, written}
 use Rattle.frames.specs.declared.kind.Kind.{Kind}
 use Rattle.frames.specs.declared.kind.Kind.TheVariants.{Request, Ack, Summary, Proposal, Prepare, Commit}
 use Rattle.model.specs.declared.fault.Fault.{Fault}

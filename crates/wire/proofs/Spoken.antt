@@ -1,5 +1,5 @@
 -- Frames on the wire, and the rows that a proposal may have.
-use Rattle.std.proofs.Common.{◌≡◌, ℕ, ◌+◌, ◌*◌, ◌<◌, ◌≤◌, Bool, true, false, eqb, List, [], length, get_or, take, drop, Decides, sym, ap, ◌∙◌, arith, rules}
+use Rattle.std.proofs.Common.{◌≡◌, ℕ, ◌+◌, ◌*◌, ◌<◌, ◌≤◌, Bool, true, false, eqb, List, [], length, get_or, take, drop, sym, ap, ◌∙◌, arith, rules}
 use Rattle.order.proofs.Comparing.{any_finds, any_more}
 use Rattle.rows.proofs.Cells.{row_fits, row_whole, square_fits}
 use Rattle.rows.specs.Values.{row_in}

@@ -1,5 +1,5 @@
 -- What lies on the wire of a run, and what a faulty station may add to it.
-use Rattle.std.specs.Prelude.{ℕ, suc, ◌*◌, Bool, true, false, not, ◌&&◌, ◌||◌, List, [], ◌∷◌, length, Ok, Err, Option, Result, ◌==◌, nat_le, nat_lt, slice_index_or}
+use Rattle.std.specs.Prelude.{ℕ, Bool, true, false, not, ◌&&◌, ◌||◌, List, [], ◌∷◌, length, Ok, Option, Result, ◌==◌, nat_le, nat_lt, slice_index_or}
 use Rattle.frames.specs.Meaning.{meaning}
 use Rattle.frames.specs.Said.{Said, request, ack, summary, proposal, prepare, commit}
 use Rattle.frames.specs.Writing.{faults_of, frame, sender_of, sequence_of}

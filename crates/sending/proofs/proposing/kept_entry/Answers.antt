@@ -1,6 +1,5 @@
-use Rattle.std.proofs.Common.{◌+◌, ◌*◌, ◌<◌, min, arith}
+use Rattle.std.proofs.Common.{arith}
 use Rattle.model.specs.Quorums.{stations}
-use Rattle.rows.specs.Values.{row_of}
 use Rattle.sending.proofs.Keeping.{entry_read, row_below}
 use Rattle.sending.proofs.proposing.kept_entry.Goals as goal
 use Rattle.tables.specs.Plans.{plan_of}

@@ -2,7 +2,6 @@ use Rattle.std.proofs.Common.{◌*◌, length, ap, ◌∙◌, subst}
 use Rattle.frames.specs.Said.{proposal}
 use Rattle.frames.specs.Writing.{frame}
 use Rattle.model.specs.Quorums.{stations}
-use Rattle.rows.specs.Values.{matrix_of}
 use Rattle.sending.proofs.Decided.{propose_sent}
 use Rattle.sending.proofs.proposing.to_propose.Goals as goal
 use Rattle.std.proofs.lemmas.List.FromFn.{length-map-range_with_len}

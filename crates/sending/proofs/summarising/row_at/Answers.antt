@@ -1,4 +1,4 @@
-use Rattle.std.proofs.Common.{◌≡◌, ◌<◌, min, ltb, length, replicate, refl, ap, ◌∙◌, arith}
+use Rattle.std.proofs.Common.{◌≡◌, ◌<◌, min, ltb, length, refl, ap, ◌∙◌, arith}
 use Rattle.model.specs.Quorums.{held, stations}
 use Rattle.rows.specs.Values.{row_of}
 use Rattle.sending.proofs.Filling.{filled_more}

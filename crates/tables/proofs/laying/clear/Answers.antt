@@ -1,4 +1,4 @@
-use Rattle.std.proofs.Common.{◌≡◌, ℕ, ◌*◌, ◌≤◌, min, List, map, replicate, None, ap, ◌∙◌, arith}
+use Rattle.std.proofs.Common.{◌≡◌, ◌*◌, min, map, replicate, None, ap, ◌∙◌, arith}
 use Rattle.model.specs.Quorums.{meant, stations}
 use Rattle.tables.proofs.Opened.{map-front, opens}
 use Rattle.tables.proofs.laying.clear.Goals as goal

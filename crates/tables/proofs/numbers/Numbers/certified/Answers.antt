@@ -3,9 +3,9 @@ use Rattle.model.specs.Quorums.{held, stations}
 use Rattle.tables.proofs.Indices.{held_part}
 use Rattle.tables.proofs.numbers.Numbers.certified.Goals as goal
 use Rattle.tables.specs.Plans.{lengths_of, plan_of}
-use Rattle.tables.specs.Reading.{first_place, unread}
+use Rattle.tables.specs.Reading.{unread}
 use Rattle.std.proofs.lemmas.Bool.{cond-false, le-ltb, lt-leb, or_from}
-use Rattle.std.proofs.Common.{◌≡◌, ◌||◌, eqb, ltb, leb, take, drop, sym, ap, ◌∙◌, arith}
+use Rattle.std.proofs.Common.{◌||◌, eqb, ltb, leb, take, drop, sym, ap, ◌∙◌, arith}
 
 pub returns : goal.returns
 returns g c =

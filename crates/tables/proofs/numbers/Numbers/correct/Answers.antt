@@ -2,7 +2,7 @@ use Rattle.tables.proofs.Lengths.{same_lengths}
 use Rattle.tables.proofs.numbers.Numbers.correct.Goals as goal
 use Rattle.tables.specs.Plans.{lengths_of, plan_of}
 use Rattle.tables.specs.Stations.{correct_in, station_in}
-use Rattle.std.proofs.Common.{not, sym, ap, ◌∙◌}
+use Rattle.std.proofs.Common.{sym, ap, ◌∙◌}
 
 pub returns : goal.returns
 returns g c =

@@ -1,5 +1,4 @@
 use Rattle.std.proofs.Common.{◌≡◌, ◌+◌, ◌*◌, min, leb, map, get_or, sym, ap, ◌∙◌, arith}
-use Rattle.model.specs.Quorums.{stations}
 use Rattle.tables.proofs.Items.{read_present}
 use Rattle.tables.proofs.numbers.Numbers.executed.Goals as goal
 use Rattle.tables.specs.Contents.{done_of, none}
