@@ -4,7 +4,7 @@ mod packing;
 
 // An order to set a gate: its opening in millimetres, the day of the year and the minute of the day from which it stands,
 // and the order's own number.
-#[derive(Clone, Copy)]
+#[derive(Clone, Copy, PartialEq, Eq, Debug)]
 pub struct GateOrder {
     pub gate: u8,
     pub opening: u16,

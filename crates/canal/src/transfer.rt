@@ -3,7 +3,7 @@ ghost use Rattle.std.specs.Prelude.{◌^◌, ◌<◌, ◌≤◌};
 mod packing;
 
 // A transfer of water from one pound to another: its volume in cubic metres, and the order's own number.
-#[derive(Clone, Copy)]
+#[derive(Clone, Copy, PartialEq, Eq, Debug)]
 pub struct Transfer {
     pub source: u8,
     pub target: u8,

@@ -1,6 +1,7 @@
 // Small clients of runs, over every machine, with the proof that their runs have a past.
 #![tactic(auto)]
 
+mod beginning;
 mod orders;
 mod sends;
 

@@ -1,14 +1,15 @@
 ghost use Rattle.runs.specs.Pasts.{HasPast, closed_run, is_closed};
 ghost use Rattle.std.specs.Prelude.{IfOk};
 
+use crate::beginning::begin;
 use model::{Fault, Machine};
-use runs::{Closed, Fitted};
-use tables::Tables;
+use runs::Closed;
+use tables::{Setup, Tables};
 
 // Fits and opens a run, submits an operation at two stations, summarises, lets a station speak falsely, and closes the run.
 // Any of these calls may be refused.
 pub fn send_some<M: Machine + Drop>(
-    numbers: (u32, u32, u32, u32),
+    setup: Setup,
     t: &mut Tables<'_, M>,
     start: &M,
     u: &M::Op,
@@ -16,12 +17,7 @@ pub fn send_some<M: Machine + Drop>(
 ) -> Result<Closed, Fault>
     ensures { IfOk result (λ x. HasPast M.Op.Operation.refused (M.Machine.means start.now) is_closed (closed_run M.Op.Operation.bits M.Machine.means x t.new)) }
 {
-    let (f, length, leader, faulty) = numbers;
-    let fitted = Fitted::new(f, length, leader, faulty, t)?;
-    let mut run = match fitted.open(t, start) {
-        Ok(run) => run,
-        Err(declined) => return Err(declined.fault),
-    };
+    let mut run = begin(setup, t, start)?;
     let _ = run.submit(t, 0, u);
     let _ = run.submit(t, 1, u);
     let _ = run.summarise(t, 2);

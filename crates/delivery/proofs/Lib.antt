@@ -4,3 +4,4 @@ pub mod Joining
 pub mod Outcomes
 pub mod Prepares
 pub mod Said
+pub mod Settling

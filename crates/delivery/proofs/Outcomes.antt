@@ -1,15 +1,11 @@
 -- The outcome of a word by meaning is its outcome by a test.
-use Rattle.std.proofs.Common.{◌≡◌, ℕ, zero, suc, ◌<◌, Bool, true, false, cond, eqb, ◌⊎◌, List, [], ◌∷◌, map, length, get_or, Some, None, Option, sym, refl, ap, ◌∙◌, inl, inr, arith, Bor}
-use Rattle.delivery.specs.Deliveries.{meets, ranks}
+use Rattle.std.proofs.Common.{◌≡◌, ℕ, zero, suc, Bool, true, false, cond, eqb, ◌⊎◌, List, [], ◌∷◌, get_or, Some, None, Option, sym, refl, ap, ◌∙◌, inl, inr, arith, Bor}
+use Rattle.delivery.specs.Deliveries.{meets}
 use Rattle.delivery.specs.Meetings.{Meets}
 use Rattle.delivery.specs.declared.outcome.Outcome.{Outcome}
 use Rattle.delivery.specs.declared.outcome.Outcome.TheVariants.{Known, TwoFaced}
 use Rattle.model.specs.Decided.{Tells}
 use Rattle.model.specs.Quorums.{held, meant}
-use Rattle.order.specs.Rows.{read, standing}
-use Rattle.rows.specs.Values.{row_of}
-use Rattle.rows.specs.declared.owned.Row.{Row}
-use Rattle.std.proofs.lemmas.List.{get_or-map}
 use Rattle.std.proofs.lemmas.Bool.{and_from, and_parts, cases_Bool, eq-eqb, eqb-true, false≢true}
 use Rattle.std.specs.Option.{option_map}
 use Rattle.wire.specs.Wires.{same_list}
@@ -70,9 +66,3 @@ module _ {W V U : Type 0} (g : W → V) (h : W → U) (same : U → U → Bool) 
   pub met : (held : Option (Bor W)) (word : W) (r : Outcome) → Meets (meant (λ u. g u.now) held) (g word) r → r ≡ meets same (meant (λ u. h u.now) held) (h word)
   met (Some u) word r m = met_at u.now word r m (cases_Bool (same (h u.now) (h word)))
   met None word r m = m
-
--- The rank of a row beside the one that was read at a place.
-pub kept_is : (n limit at : ℕ) (new : List ℕ) (kept : List Row) (here : Row) (r : Outcome) → at < length kept → here ≡ get_or kept at here
-    → r ≡ ranks (standing n new (read limit (row_of here))) → r ≡ ranks (standing n new (read limit (get_or (map row_of kept) at [])))
-kept_is n limit at new kept here r within is e =
-    e ∙ ap (λ entries. ranks (standing n new (read limit entries))) (ap row_of is ∙ sym (get_or-map row_of kept at here [] within))

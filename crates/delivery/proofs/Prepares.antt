@@ -1,5 +1,5 @@
 -- The votes on a number as they are read, and the certificate among them.
-use Rattle.std.proofs.Common.{◌≡◌, ℕ, ◌+◌, ◌-◌, ◌<◌, ◌≤◌, Bool, false, cond, ◌≢◌, List, [], ◌∷◌, length, get_or, take, drop, set, is_some, Some, None, Option, sym, refl, ap, ◌∙◌, subst, inl, inr, arith, Bor, below_more}
+use Rattle.std.proofs.Common.{◌≡◌, ℕ, ◌+◌, ◌-◌, ◌<◌, ◌≤◌, Bool, true, false, cond, ◌≢◌, List, [], ◌∷◌, ◌++◌, length, get_or, take, drop, set, is_some, Some, None, Option, sym, refl, ap, ◌∙◌, subst, inl, inr, arith, Bor, below_more}
 use Rattle.delivery.proofs.Outcomes.{get_d_held, tells_lists}
 use Rattle.delivery.specs.Deliveries.{commits, first_vote, prepared_at, votes_at}
 use Rattle.delivery.specs.Tellings.{newly}
@@ -10,35 +10,33 @@ use Rattle.model.specs.Quorums.{Answers, Certificate, Holds, held, meant, statio
 use Rattle.rows.specs.Caps.{capped_at}
 use Rattle.rows.specs.Values.{matrix_of}
 use Rattle.rows.specs.declared.owned.Matrix.{Matrix}
-use Rattle.std.proofs.lemmas.List.{drop-set-add, ext_get_or, get_or-drop, get_or-set_other, get_or-set_same, get_or-take, length-drop, length-map, length-take, map-set}
+use Rattle.std.proofs.lemmas.List.{drop-set-add, ext_get_or, get_or-set_other, get_or-set_same, length-drop, length-map, length-take, drop-map, map-set, take-map, take_all, take-append-le}
 use Rattle.std.proofs.lemmas.Bool.{cases_Bool, cases_eq, false≢true, true≢false}
 use Rattle.tables.specs.Plans.{Plan}
 use Rattle.wire.specs.Wires.{same_list}
 use lib.Seq.{take-set-lt}
 
--- Places that were read one by one are those from the first one on.
-pub places_are : (votes r : List (Option Matrix)) (from n limit : ℕ) → n ≤ length r → from + n ≤ length votes
-    → ((j : ℕ) → j < n → meant matrix_of (get_or r j None) ≡ meant (capped_at limit) (get_or (held matrix_of votes) (from + j) None))
-    → held matrix_of (take n r) ≡ held (capped_at limit) (take n (drop from (held matrix_of votes)))
-places_are votes r from n limit few within each =
-    let all = held matrix_of votes in
-    let long : length (held matrix_of (take n r)) ≡ n = simp (length-map, length-take) (omega arith) in
-    let other : length (held (capped_at limit) (take n (drop from all))) ≡ n = simp (length-map, length-take, length-drop) (omega arith) in
-    ext_get_or None _ _ (long ∙ sym other) (λ j h.
-    let l : j < n = omega arith in
-    get_d_held matrix_of (take n r) j ∙ ap (meant matrix_of) (get_or-take n r j None l) ∙ each j l
-    ∙ ap (meant (capped_at limit)) (sym (get_or-take n (drop from all) j None l ∙ get_or-drop from all j None))
-    ∙ sym (get_d_held (capped_at limit) (take n (drop from all)) j))
+-- Places that were read one by one are those that are there, as they are read.
+pub places_are : (votes items rest : List (Option Matrix)) (limit : ℕ) → length items ≡ length votes
+    → ((j : ℕ) → j < length votes → meant matrix_of (get_or items j None) ≡ meant (capped_at limit) (get_or (held matrix_of votes) j None))
+    → held matrix_of (take (length votes) (items ++ rest)) ≡ held (capped_at limit) (held matrix_of votes)
+places_are votes items rest limit long each =
+    let front : take (length votes) (items ++ rest) ≡ items =
+    take-append-le (length votes) items rest (omega arith) ∙ take_all (length votes) items (omega arith) in
+    ap (held matrix_of) front
+    ∙ ext_get_or None _ _ (simp length-map long)
+    (λ j h. let l : j < length votes = omega (arith, simp length-map at h) in
+    get_d_held matrix_of items j ∙ each j l ∙ sym (get_d_held (capped_at limit) (held matrix_of votes) j))
 
 -- One place more is read.
-pub places_more : (votes r : List (Option Matrix)) (from k limit : ℕ) (p : Option Matrix) → k < length r
-    → ((j : ℕ) → j < k → meant matrix_of (get_or r j None) ≡ meant (capped_at limit) (get_or (held matrix_of votes) (from + j) None))
-    → meant matrix_of p ≡ meant (capped_at limit) (get_or (held matrix_of votes) (from + k) None)
-    → (j : ℕ) → j < k + 1 → meant matrix_of (get_or (set r k p) j None) ≡ meant (capped_at limit) (get_or (held matrix_of votes) (from + j) None)
-places_more votes r from k limit p long each here =
+pub places_more : (votes items : List (Option Matrix)) (k limit : ℕ) (p : Option Matrix) → k < length items
+    → ((j : ℕ) → j < k → meant matrix_of (get_or items j None) ≡ meant (capped_at limit) (get_or (held matrix_of votes) j None))
+    → meant matrix_of p ≡ meant (capped_at limit) (get_or (held matrix_of votes) k None)
+    → (j : ℕ) → j < k + 1 → meant matrix_of (get_or (set items k p) j None) ≡ meant (capped_at limit) (get_or (held matrix_of votes) j None)
+places_more votes items k limit p long each here =
     below_more _ k
-    (λ j h. let ne : j ≢ k = omega arith in ap (meant matrix_of) (get_or-set_other r k j p None ne) ∙ each j h)
-    (ap (meant matrix_of) (get_or-set_same r k p None long) ∙ here)
+    (λ j h. let ne : j ≢ k = omega arith in ap (meant matrix_of) (get_or-set_other items k j p None ne) ∙ each j h)
+    (ap (meant matrix_of) (get_or-set_same items k p None long) ∙ here)
 
 some_meant : {W V : Type 0} (g : W → V) (r : Option W) → is_some r ≡ is_some (meant g r)
 some_meant g (Some u) = refl
@@ -74,26 +72,50 @@ newly_by None (Some v) r b a = a
 newly_by None None r b a = a
 newly_by (Some w) after r b a = absurd (true≢false b)
 
--- Before a vote is taken the station is not prepared, and this says whether it is after.
-pub newly_is : (p : Plan) (all : List (Option (List ℕ))) (places : List (Option Matrix)) (m : Matrix) (i s j n from : ℕ) (r : Bool)
-    → n ≡ stations p.faults → from ≡ first_vote p i s → j < stations p.faults → capped_at p.limit (matrix_of m) ≡ matrix_of m
-    → held matrix_of (take n places) ≡ held (capped_at p.limit) (take n (drop from all))
-    → is_some (certified_by same_list p.faults (held matrix_of (take (n - 0) places)) p.leader) ≡ false
-    → r ≡ is_some (certified_by same_list p.faults (held matrix_of (take (n - 0) (set places j (Some m)))) p.leader)
-    → r ≡ newly (prepared_at p all i s) (prepared_at p (set all (first_vote p i s + j) (Some (matrix_of m))) i s)
-newly_is p all places m i s j n from r en ef h low is before after =
-    let f = p.faults in
-    let limit = p.limit in
-    let whole : n - 0 ≡ n = omega arith in
-    let at : held matrix_of (take n places) ≡ votes_at p all i s =
-    is ∙ ap (λ k. held (capped_at limit) (take k (drop from all))) en ∙ ap (λ k. held (capped_at limit) (take (stations f) (drop k all))) ef in
-    let then : held matrix_of (take n (set places j (Some m))) ≡ votes_at p (set all (first_vote p i s + j) (Some (matrix_of m))) i s =
-    votes_after all places m from n j limit (omega arith) low is
-    ∙ ap (λ k. held (capped_at limit) (take k (drop from (set all (from + j) (Some (matrix_of m)))))) en
-    ∙ ap (λ k. held (capped_at limit) (take (stations f) (drop k (set all (k + j) (Some (matrix_of m)))))) ef in
-    newly_by (prepared_at p all i s) (prepared_at p (set all (first_vote p i s + j) (Some (matrix_of m))) i s) r
-    (ap (λ ps. is_some (certified_by same_list f ps p.leader)) (sym (ap (λ k. held matrix_of (take k places)) whole ∙ at)) ∙ before)
-    (after ∙ ap (λ ps. is_some (certified_by same_list f ps p.leader)) (ap (λ k. held matrix_of (take k (set places j (Some m)))) whole ∙ then))
+newly_not : {V : Type 0} (before after : Option V) → is_some before ≡ true → false ≡ newly before after
+newly_not None after b = absurd (false≢true b)
+newly_not (Some w) after b = refl
+
+-- The places for a number at station i, as they were read.
+module _ (p : Plan) (votes places : List (Option Matrix)) (m : Matrix) (i s j n from : ℕ) (en : n ≡ stations p.faults) (ef : from ≡ first_vote p i s) (within : from + n ≤ length votes)
+    (read : held matrix_of (take (length (take (from + n - from) (drop from votes))) places) ≡ held (capped_at p.limit) (held matrix_of (take (from + n - from) (drop from votes)))) where
+  read_here : held matrix_of (take n places) ≡ held (capped_at p.limit) (take n (drop from (held matrix_of votes)))
+  read_here =
+      let z : from + n - from ≡ n = omega arith in
+      let long : length (take (from + n - from) (drop from votes)) ≡ n = simp (length-take, length-drop) (omega arith) in
+      ap (λ k. held matrix_of (take k places)) (sym long) ∙ read
+      ∙ ap (λ k. held (capped_at p.limit) (held matrix_of (take k (drop from votes)))) z
+      ∙ ap (held (capped_at p.limit)) (sym (ap (take n) (drop-map (meant matrix_of) from votes) ∙ take-map (meant matrix_of) n (drop from votes)))
+
+  votes_before : held matrix_of (take n places) ≡ votes_at p (held matrix_of votes) i s
+  votes_before =
+      read_here ∙ ap (λ k. held (capped_at p.limit) (take k (drop from (held matrix_of votes)))) en
+      ∙ ap (λ k. held (capped_at p.limit) (take (stations p.faults) (drop k (held matrix_of votes)))) ef
+
+  -- Whether the station is prepared before a vote is taken.
+  prepared_before : is_some (certified_by same_list p.faults (held matrix_of (take n places)) p.leader) ≡ is_some (prepared_at p (held matrix_of votes) i s)
+  prepared_before = ap (λ ps. is_some (certified_by same_list p.faults ps p.leader)) votes_before
+
+  pub newly_never : is_some (certified_by same_list p.faults (held matrix_of (take n places)) p.leader) ≡ true
+      → false ≡ newly (prepared_at p (held matrix_of votes) i s) (prepared_at p (set (held matrix_of votes) (first_vote p i s + j) (Some (matrix_of m))) i s)
+  newly_never e =
+      newly_not (prepared_at p (held matrix_of votes) i s) (prepared_at p (set (held matrix_of votes) (first_vote p i s + j) (Some (matrix_of m))) i s) (sym prepared_before ∙ e)
+
+  -- It is not, and this says whether it is after.
+  pub newly_is : (r : Bool) → j < stations p.faults → capped_at p.limit (matrix_of m) ≡ matrix_of m
+      → is_some (certified_by same_list p.faults (held matrix_of (take n places)) p.leader) ≡ false
+      → r ≡ is_some (certified_by same_list p.faults (held matrix_of (take n (set places j (Some m)))) p.leader)
+      → r ≡ newly (prepared_at p (held matrix_of votes) i s) (prepared_at p (set (held matrix_of votes) (first_vote p i s + j) (Some (matrix_of m))) i s)
+  newly_is r h low before after =
+      let all = held matrix_of votes in
+      let f = p.faults in
+      let then : held matrix_of (take n (set places j (Some m))) ≡ votes_at p (set all (first_vote p i s + j) (Some (matrix_of m))) i s =
+      votes_after all places m from n j p.limit (omega arith) low read_here
+      ∙ ap (λ k. held (capped_at p.limit) (take k (drop from (set all (from + j) (Some (matrix_of m)))))) en
+      ∙ ap (λ k. held (capped_at p.limit) (take (stations f) (drop k (set all (k + j) (Some (matrix_of m)))))) ef in
+      newly_by (prepared_at p all i s) (prepared_at p (set all (first_vote p i s + j) (Some (matrix_of m))) i s) r
+      (sym prepared_before ∙ before)
+      (after ∙ ap (λ ps. is_some (certified_by same_list f ps p.leader)) then)
 
 -- ---- the proposal for which a station becomes prepared
 

@@ -1,11 +1,13 @@
 -- What is known of a frame of the run.
-use Rattle.std.proofs.Common.{◌≡◌, ℕ, ◌*◌, ◌≤◌, min, Bool, true, false, not, eqb, ltb, leb, List, [], ◌∷◌, get_or, Some, None, Ok, Err, Option, Result, sym, refl, ap, ◌∙◌, subst, arith, Bor}
+use Rattle.std.proofs.Common.{◌≡◌, ℕ, ◌*◌, ◌<◌, ◌≤◌, min, Bool, true, false, not, eqb, ltb, leb, List, [], ◌∷◌, get_or, Some, None, Ok, Err, Option, Result, sym, refl, ap, ◌∙◌, subst, arith, Bor}
+use Rattle.delivery.specs.Hearings.{Voted}
+use Rattle.delivery.specs.declared.heard.Vote.{Vote}
 use Rattle.frames.proofs.Headers.{unless-none}
 use Rattle.frames.proofs.Judging.{read_inv}
 use Rattle.frames.specs.Kinds.{stations}
 use Rattle.frames.specs.Meaning.{meaning, part_fault, said_in, shifted}
 use Rattle.frames.specs.Said.{Said}
-use Rattle.frames.specs.Views.{Accepted, said_of}
+use Rattle.frames.specs.Views.{Accepted, Sound, header_of, said_of}
 use Rattle.frames.specs.Writing.{faults_of, sequence_of}
 use Rattle.frames.specs.declared.kind.Frame.{Frame}
 use Rattle.frames.specs.declared.kind.Frame.TheVariants as frames
@@ -17,6 +19,7 @@ use Rattle.model.specs.declared.fault.Reason.{Reason}
 use Rattle.model.specs.declared.fault.Reason.TheVariants.{FrameFilling, FrameOrigin}
 use Rattle.rows.specs.Bits.{entries, field}
 use Rattle.rows.specs.Caps.{capped_at}
+use Rattle.rows.specs.Values.{matrix_of}
 use Rattle.std.proofs.lemmas.Bool.{eqb-true, ltb-false, not-false, or_parts}
 use Rattle.tables.specs.Plans.{Plan}
 use Rattle.tables.specs.Refusing.{refuse, then}
@@ -48,21 +51,45 @@ ours p said e =
       low = capped_same p.limit (entries_in said) b.1;
     }
 
--- The matrix in a part of such a frame is read as it is.
-vote_low : (p : Plan) (said : Said) (part es : List ℕ) (f : ℕ) → foreign p said ≡ false → faults_of said ≡ f → entries_in said ≡ entries part (stations f * stations f)
-    → es ≡ entries part (stations p.faults * stations p.faults) → capped_at p.limit es ≡ es
-vote_low p said part es f e ef is ees =
-    let o = ours p said e in
-    let same : entries_in said ≡ es = is ∙ ap (λ n. entries part (stations n * stations n)) (sym ef ∙ o.faults) ∙ sym ees in
-    subst (λ xs. capped_at p.limit xs ≡ xs) same o.low
+-- The frame holds a vote in this part.
+abbrev pub HoldsVote : Frame → Bor (List ℕ) → Type 0
+HoldsVote (frames.Request h u) m = ⊥
+HoldsVote (frames.Ack h o u) m = ⊥
+HoldsVote (frames.Summary h row) m = ⊥
+HoldsVote (frames.Proposal h part) m = part ≡ m
+HoldsVote (frames.Prepare h part) m = part ≡ m
+HoldsVote (frames.Commit h part) m = part ≡ m
 
-module _ (p : Plan) (x : Frame) (h : Header) (m : Bor (List ℕ)) (es : List ℕ) (e : foreign p (said_of x) ≡ false)
-    (is : es ≡ entries m.now (stations p.faults * stations p.faults)) where
-  pub proposal_low : x ≡ frames.Proposal h m → capped_at p.limit es ≡ es
-  proposal_low ex = vote_low p (said_of (frames.Proposal h m)) m.now es h.faults (subst (λ y. foreign p (said_of y) ≡ false) ex e) refl refl is
+-- The vote in a part of such a frame is one of the run.
+module _ (p : Plan) (v : Vote) (part m : Bor (List ℕ)) (h : Header) (said : Said) (e : foreign p said ≡ false) (same : part ≡ m)
+    (number : v.number ≡ h.sequence) (speaker : v.speaker ≡ h.sender) (side : v.matrix.side ≡ stations p.faults)
+    (means : matrix_of v.matrix ≡ entries m.now (stations p.faults * stations p.faults)) where
+  of_parts : faults_of said ≡ h.faults → sequence_of said ≡ h.sequence → entries_in said ≡ entries part.now (stations h.faults * stations h.faults)
+      → h.sender < stations h.faults → 0 < h.sequence → Voted p v
+  of_parts ef eq is station some =
+      let o = ours p said e in
+      let f : h.faults ≡ p.faults = sym ef ∙ o.faults in
+      let es : entries_in said ≡ matrix_of v.matrix =
+      is ∙ ap (λ b. entries b.now (stations h.faults * stations h.faults)) same ∙ ap (λ n. entries m.now (stations n * stations n)) f ∙ sym means in
+      record {
+        speaker = rw (speaker, ← f) station;
+        some = omega arith;
+        short = omega (arith, o.short);
+        side = side;
+        low = subst (λ xs. capped_at p.limit xs ≡ xs) es o.low;
+      }
 
-  pub prepare_low : x ≡ frames.Prepare h m → capped_at p.limit es ≡ es
-  prepare_low ex = vote_low p (said_of (frames.Prepare h m)) m.now es h.faults (subst (λ y. foreign p (said_of y) ≡ false) ex e) refl refl is
+pub voted : (p : Plan) (x : Frame) (m : Bor (List ℕ)) (v : Vote) → Sound x → foreign p (said_of x) ≡ false → HoldsVote x m → v.number ≡ (header_of x).sequence → v.speaker ≡ (header_of x).sender
+    → v.matrix.side ≡ stations p.faults → matrix_of v.matrix ≡ entries m.now (stations p.faults * stations p.faults) → Voted p v
+voted p (frames.Proposal h part) m v s e i number speaker side means =
+    of_parts p v part m h (said_of (frames.Proposal h part)) e i number speaker side means refl refl refl s.station s.numbered
+voted p (frames.Prepare h part) m v s e i number speaker side means =
+    of_parts p v part m h (said_of (frames.Prepare h part)) e i number speaker side means refl refl refl s.station s.numbered
+voted p (frames.Commit h part) m v s e i number speaker side means =
+    of_parts p v part m h (said_of (frames.Commit h part)) e i number speaker side means refl refl refl s.station s.numbered
+voted p (frames.Request h u) m v s e i number speaker side means = absurd i
+voted p (frames.Ack h o u) m v s e i number speaker side means = absurd i
+voted p (frames.Summary h row) m v s e i number speaker side means = absurd i
 
 shifted_none : (at : ℕ) (o : Option Fault) → shifted at o ≡ None → o ≡ None
 shifted_none at None e = refl

@@ -1,3 +1,4 @@
 pub mod Deliveries
+pub mod Hearings
 pub mod Meetings
 pub mod Tellings

@@ -8,8 +8,8 @@ ghost use Rattle.tables.specs.Refusing.{seen_as};
 use crate::change::Delivery;
 use crate::hearing::{hear, misnamed};
 use model::{Fault, Machine, Reason};
-use tables::{Numbers, Tables};
-use wire::frame_at;
+use tables::Snapshot;
+use wire::Wire;
 
 // Whether a wire of so many places, which ends at `end`, lacks places for the frames of a delivery.
 fn lacks_places<O>(wire: u16, end: u16, delivery: &Delivery<O>) -> bool
@@ -19,26 +19,30 @@ fn lacks_places<O>(wire: u16, end: u16, delivery: &Delivery<O>) -> bool
     end as u32 + frames > wire as u32
 }
 
-// What the delivery of the frame at a place of the wire, which ends at `end`, does at a correct station, or why it is
-// refused. Nothing is changed.
+// What the delivery of the frame at a place of the wire does at a correct station, or why it is refused. Nothing is changed.
 pub fn decide<M: Machine>(
-    numbers: Numbers,
-    end: u16,
-    t: &Tables<'_, M>,
+    run: &Snapshot<'_, '_, M>,
     station: u32,
     place: u32,
 ) -> Result<Delivery<M::Op>, Fault>
-    ensures means { seen_as (told_by M.Op.Operation.bits) result ≡ seen_as told (delivery_of M.Op.Operation.refused (plan_of numbers) end (contents M.Op.Operation.bits M.Machine.means t.now) station place) }
-    ensures fits { IfOk result (Fits (plan_of numbers) end (lengths_of t.now) station) }
+    ensures means { seen_as (told_by M.Op.Operation.bits) result ≡ seen_as told (delivery_of M.Op.Operation.refused (plan_of run.now.numbers) run.now.end (contents M.Op.Operation.bits M.Machine.means run.now.tables.now) station place) }
+    ensures fits { IfOk result (Fits (plan_of run.now.numbers) run.now.end (lengths_of run.now.tables.now) station) }
 {
+    let numbers = run.numbers;
+    let t = run.tables;
     let at = numbers.correct(t, station)?;
-    let frame = frame_at::<M::Op>(numbers, end, t.wire, place)?;
+    let wire = Wire {
+        numbers,
+        end: run.end,
+        slots: t.wire,
+    };
+    let frame = wire.frame_at::<M::Op>(place)?;
     if misnamed(numbers, &frame) {
-        return Err(Fault::new(Reason::WrongSender, 0));
+        return Err(Reason::WrongSender.into());
     }
-    let delivery = hear(numbers, t, at, &frame);
-    if lacks_places(numbers.wire, end, &delivery) {
-        return Err(Fault::new(Reason::WireFull, 0));
+    let delivery = hear(&at, &frame);
+    if lacks_places(numbers.wire, run.end, &delivery) {
+        return Err(Reason::WireFull.into());
     }
     Ok(delivery)
 }

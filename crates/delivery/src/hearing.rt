@@ -1,23 +1,34 @@
 ghost use Rattle.std.specs.Prelude.{◌≡◌, ◌*◌, false};
-ghost use Rattle.delivery.specs.Deliveries.{heard, hears, misnamed as misnamed_in};
-ghost use Rattle.delivery.specs.Tellings.{Placed, told, told_by};
+ghost use Rattle.delivery.specs.Deliveries.{heard, misnamed as misnamed_in};
+ghost use Rattle.delivery.specs.Hearings.{Hears};
 ghost use Rattle.frames.specs.Views.{Accepted, Sound, said_of};
 ghost use Rattle.model.specs.Quorums.{stations};
 ghost use Rattle.rows.specs.Bits.{entries};
 ghost use Rattle.rows.specs.Values.{matrix_of, row_of};
-ghost use Rattle.tables.specs.Contents.{contents};
-ghost use Rattle.tables.specs.Plans.{lengths_of, plan_of};
-ghost use Rattle.tables.specs.Stations.{Ready};
+ghost use Rattle.tables.specs.Plans.{plan_of};
 ghost use Rattle.wire.specs.Wires.{foreign};
 
 use crate::change::Delivery;
+use crate::heard::{Spoken, Vote};
 use crate::summaries::hear_row;
 use crate::votes::{hear_commit, hear_vote};
 use crate::words::hear_word;
 use frames::{Frame, Header};
 use model::{Machine, Watch};
 use rows::{Matrix, Row};
-use tables::{Numbers, Tables};
+use tables::{Numbers, Station};
+
+// The word on an origin's sequence that a frame with this header holds.
+fn word_in(header: Header, origin: u8, packed: u64) -> Spoken
+    ensures { result ≡ record { origin = origin; sequence = header.sequence; speaker = header.sender; packed = packed } }
+{
+    Spoken {
+        origin,
+        sequence: header.sequence,
+        speaker: header.sender,
+        packed,
+    }
+}
 
 // The row that this part of a frame of the run holds.
 fn row_in(watch: Watch, part: &[u8]) -> Row
@@ -26,12 +37,18 @@ fn row_in(watch: Watch, part: &[u8]) -> Row
     Row::unpack(watch.stations() as usize, part)
 }
 
-// The matrix that this part of a frame of the run holds.
-fn matrix_in(watch: Watch, part: &[u8]) -> Matrix
-    ensures side { result.side ≡ stations watch.faults }
-    ensures means { matrix_of result ≡ entries part.now (stations watch.faults * stations watch.faults) }
+// The vote that a frame of the run with this header and this part holds.
+fn vote_in(watch: Watch, header: Header, part: &[u8]) -> Vote
+    ensures number { result.number ≡ header.sequence }
+    ensures speaker { result.speaker ≡ header.sender }
+    ensures side { result.matrix.side ≡ stations watch.faults }
+    ensures means { matrix_of result.matrix ≡ entries part.now (stations watch.faults * stations watch.faults) }
 {
-    Matrix::unpack(watch.stations() as usize, part)
+    Vote {
+        number: header.sequence,
+        speaker: header.sender,
+        matrix: Matrix::unpack(watch.stations() as usize, part),
+    }
 }
 
 // Whether the frame is a proposal that is not the leader's, a prepare that is, or an ack that is its origin's.
@@ -39,55 +56,29 @@ pub(crate) fn misnamed(numbers: Numbers, frame: &Frame<'_>) -> bool
     ensures { result ≡ misnamed_in (plan_of numbers) (said_of frame.now) }
 {
     match frame {
-        Frame::Request { .. } => false,
+        Frame::Request { .. } | Frame::Summary { .. } | Frame::Commit { .. } => false,
         Frame::Ack { header, origin, .. } => header.sender == *origin,
-        Frame::Summary { .. } => false,
         Frame::Proposal { header, .. } => header.sender != numbers.leader,
         Frame::Prepare { header, .. } => header.sender == numbers.leader,
-        Frame::Commit { .. } => false,
     }
 }
 
 // What a frame of the run does at a station.
-pub(crate) fn hear<M: Machine>(
-    numbers: Numbers,
-    t: &Tables<'_, M>,
-    station: usize,
-    frame: &Frame<'_>,
-) -> Delivery<M::Op>
-    requires ready { Ready (plan_of numbers) (lengths_of t.now) station }
+pub(crate) fn hear<M: Machine>(at: &Station<'_, '_, M>, frame: &Frame<'_>) -> Delivery<M::Op>
     requires sound { Sound frame.now }
-    requires ours { foreign (plan_of numbers) (said_of frame.now) ≡ false }
+    requires ours { foreign (plan_of at.now.numbers) (said_of frame.now) ≡ false }
     requires accepted { Accepted M.Op.Operation.refused (said_of frame.now) }
-    ensures tells { told_by M.Op.Operation.bits result ≡ told (hears (plan_of numbers) (contents M.Op.Operation.bits M.Machine.means t.now) station (heard (said_of frame.now))) }
-    ensures placed { Placed (lengths_of t.now) station result }
+    ensures { Hears M.Op.Operation.bits M.Machine.means at.now.numbers at.now.tables.now at.now.index (heard (said_of frame.now)) result }
 {
-    let Header {
-        sender,
-        sequence,
-        ..
-    } = frame.header();
+    let watch = at.numbers.watch;
+    let header = frame.header();
     match frame {
-        Frame::Request { packed, .. } => {
-            hear_word(numbers, t, station, sender, sender, sequence, *packed)
+        Frame::Request { packed, .. } => hear_word(at, word_in(header, header.sender, *packed)),
+        Frame::Ack { origin, packed, .. } => hear_word(at, word_in(header, *origin, *packed)),
+        Frame::Summary { row, .. } => hear_row(at, header.sender, row_in(watch, row)),
+        Frame::Proposal { matrix, .. } | Frame::Prepare { matrix, .. } => {
+            hear_vote(at, &vote_in(watch, header, matrix))
         }
-        Frame::Ack { origin, packed, .. } => {
-            hear_word(numbers, t, station, sender, *origin, sequence, *packed)
-        }
-        Frame::Summary { row, .. } => {
-            hear_row(numbers, t, station, sender, row_in(numbers.watch, row))
-        }
-        Frame::Proposal { matrix, .. } => {
-            let matrix = matrix_in(numbers.watch, matrix);
-            hear_vote(numbers, t, station, sender, sequence, matrix)
-        }
-        Frame::Prepare { matrix, .. } => {
-            let matrix = matrix_in(numbers.watch, matrix);
-            hear_vote(numbers, t, station, sender, sequence, matrix)
-        }
-        Frame::Commit { matrix, .. } => {
-            let matrix = matrix_in(numbers.watch, matrix);
-            hear_commit(numbers, t, station, sender, sequence, matrix)
-        }
+        Frame::Commit { matrix, .. } => hear_commit(at, &vote_in(watch, header, matrix)),
     }
 }

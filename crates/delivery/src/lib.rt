@@ -3,6 +3,7 @@
 
 mod change;
 mod deciding;
+mod heard;
 mod hearing;
 mod meeting;
 mod outcome;

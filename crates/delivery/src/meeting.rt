@@ -15,13 +15,8 @@ fn meet<W: Word>(held: Option<&W>, word: &W) -> Outcome
     ensures { Meets (meant (λ u. W.Word.means u.now) held.entry) (W.Word.means word.now) result }
 {
     match held {
-        Some(known) => {
-            if known.same(word) {
-                Outcome::Known
-            } else {
-                Outcome::TwoFaced
-            }
-        }
+        Some(known) if known.same(word) => Outcome::Known,
+        Some(_) => Outcome::TwoFaced,
         None => Outcome::Taken,
     }
 }
@@ -37,10 +32,7 @@ pub(crate) fn meet_word<O: Operation>(words: &[Option<O>], at: usize, word: &O) 
 pub(crate) fn capped_at(places: &[Option<Matrix>], at: usize, limit: u8) -> Option<Matrix>
     ensures { meant matrix_of result ≡ meant (capped_at limit) (slice_index_or (held_in matrix_of places.now) at None) }
 {
-    match word_at(places, at) {
-        Some(matrix) => Some(matrix.capped(limit)),
-        None => None,
-    }
+    word_at(places, at).map(|matrix| matrix.capped(limit))
 }
 
 // How a matrix meets the one at this place.

@@ -1,9 +1,13 @@
 ghost use Rattle.std.specs.Prelude.{◌≡◌, ℕ, ◌+◌, ◌-◌, ◌*◌, ◌^◌, ◌<◌, ◌≤◌};
+ghost use Rattle.delivery.specs.Deliveries.{first_vote as first_vote_of};
+ghost use Rattle.delivery.specs.Hearings.{Voted, Worded};
 ghost use Rattle.model.specs.Quorums.{stations};
-ghost use Rattle.tables.specs.Plans.{vote_places, word_places};
+ghost use Rattle.tables.specs.Plans.{plan_of, vote_places, word_places};
 ghost use Rattle.tables.specs.Reading.{first_place};
 
-use model::Watch;
+use crate::heard::{Spoken, Vote};
+use model::{Machine, Watch};
+use tables::Station;
 
 // Where the places of a number begin, in a row of numbers.
 fn places_of(watch: Watch, row: usize, number: u8) -> usize
@@ -38,18 +42,22 @@ pub(crate) fn first_vote(watch: Watch, station: usize, number: u8) -> usize
     places_of(watch, station, number)
 }
 
-// The place of a speaker's word on an origin's sequence at a station.
-pub(crate) fn word_place(
-    watch: Watch,
-    station: usize,
-    origin: u8,
-    sequence: u8,
-    speaker: u8,
-) -> usize
-    requires stations { (station < stations watch.faults) × ((origin < stations watch.faults) × (speaker < stations watch.faults)) }
-    requires sequence { (1 ≤ sequence) × (sequence ≤ watch.limit) }
-    ensures is { result ≡ first_place (stations watch.faults) watch.limit station origin sequence + speaker }
-    ensures fits { result < word_places (stations watch.faults) watch.limit }
+// The place of a vote at a station, among the first votes or the commits.
+pub(crate) fn vote_place<M: Machine>(at: &Station<'_, '_, M>, vote: &Vote) -> usize
+    requires { Voted (plan_of at.now.numbers) vote.now }
+    ensures is { result ≡ first_vote_of (plan_of at.now.numbers) at.now.index vote.now.number + vote.now.speaker }
+    ensures fits { result < vote_places (stations at.now.numbers.watch.faults) at.now.numbers.watch.limit }
 {
-    places_of(watch, row_place(watch, station, origin), sequence) + speaker as usize
+    first_vote(at.numbers.watch, at.index, vote.number) + vote.speaker as usize
+}
+
+// The place of a speaker's word on an origin's sequence at a station.
+pub(crate) fn word_place<M: Machine>(at: &Station<'_, '_, M>, spoken: Spoken) -> usize
+    requires { Worded M.Op.Operation.refused (plan_of at.now.numbers) spoken }
+    ensures is { result ≡ first_place (stations at.now.numbers.watch.faults) at.now.numbers.watch.limit at.now.index spoken.origin spoken.sequence + spoken.speaker }
+    ensures fits { result < word_places (stations at.now.numbers.watch.faults) at.now.numbers.watch.limit }
+{
+    let watch = at.numbers.watch;
+    let row = row_place(watch, at.index, spoken.origin);
+    places_of(watch, row, spoken.sequence) + spoken.speaker as usize
 }

@@ -1,8 +1,9 @@
+ghost use Rattle.std.specs.Prelude.{◌≡◌, not, ◌&&◌, ◌++◌, map, IfSome, None, ◌==◌};
+ghost use Rattle.delivery.specs.Hearings.{Settles, says};
 ghost use Rattle.delivery.specs.Tellings.{frame_in, frames_in};
 ghost use Rattle.delivery.specs.declared.outcome.Outcome.TheVariants.{Taken as TakenIs};
 ghost use Rattle.frames.specs.Views.{said_by};
-ghost use Rattle.frames.specs.Writing.{frame as frame_of, unfit};
-ghost use Rattle.std.specs.Prelude.{◌≡◌, not, ◌&&◌, [], ◌∷◌, ◌++◌, map, if◌then◌else◌, None, ◌==◌};
+ghost use Rattle.frames.specs.Writing.{frame as frame_saying, unfit};
 
 use crate::change::{Change, Delivery};
 use crate::outcome::Outcome;
@@ -18,28 +19,12 @@ pub(crate) fn echoes(station: usize, opener: u8, speaker: u8) -> bool
     speaker == opener && station != opener as usize
 }
 
-// The frame that says this, if it is sent.
-pub(crate) fn sent_if(sends: bool, sender: u8, faults: u8, message: &Message) -> Option<Slot>
-    requires { unfit (said_by sender faults message.now) ≡ None }
-    ensures { frame_in result ≡ map frame_of (if sends then said_by sender faults message.now ∷ [] else []) }
+// The frame that says this, if there is something to say.
+pub(crate) fn sent(sender: u8, faults: u8, message: Option<Message>) -> Option<Slot>
+    requires { IfSome message (λ m. unfit (said_by sender faults m) ≡ None) }
+    ensures { frame_in result ≡ map frame_saying (says sender faults message) }
 {
-    if sends {
-        Some(slot(sender, faults, message))
-    } else {
-        None
-    }
-}
-
-// A delivery that sends nothing.
-pub(crate) fn quiet<O>(outcome: Outcome, change: Change<O>) -> Delivery<O>
-    ensures { result ≡ record { outcome = outcome; change = change; first = None; second = None } }
-{
-    Delivery {
-        outcome,
-        change,
-        first: None,
-        second: None,
-    }
+    message.map(|message| slot(sender, faults, &message))
 }
 
 // A word is taken with this change, and these frames are sent, as far as there are any.
@@ -58,5 +43,33 @@ pub(crate) fn taken<O>(change: Change<O>, one: Option<Slot>, next: Option<Slot>)
         change,
         first,
         second,
+    }
+}
+
+// A delivery that sends nothing.
+pub(crate) fn quiet<O>(outcome: Outcome, change: Change<O>) -> Delivery<O>
+    ensures { result ≡ record { outcome = outcome; change = change; first = None; second = None } }
+{
+    Delivery {
+        outcome,
+        change,
+        first: None,
+        second: None,
+    }
+}
+
+// What a speaker's word does by its outcome: where it is taken, what the call says.
+pub(crate) fn settled<O, F: FnOnce() -> Delivery<O>>(
+    outcome: Outcome,
+    speaker: u8,
+    take: F,
+) -> Delivery<O>
+    requires { F.IsAlwaysCallable take }
+    ensures { Settles (F.post take) outcome speaker result }
+{
+    match outcome {
+        Outcome::Taken => take(),
+        Outcome::Known => quiet(Outcome::Known, Change::Nothing),
+        Outcome::TwoFaced => quiet(Outcome::TwoFaced, Change::Accuse { speaker }),
     }
 }

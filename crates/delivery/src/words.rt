@@ -1,54 +1,54 @@
-ghost use Rattle.std.specs.Prelude.{◌≡◌, ◌<◌, ◌≤◌, None};
-ghost use Rattle.delivery.specs.Deliveries.{hears, word as word_of};
-ghost use Rattle.delivery.specs.Tellings.{Placed, told, told_by};
-ghost use Rattle.model.specs.Quorums.{stations};
-ghost use Rattle.tables.specs.Contents.{contents};
+ghost use Rattle.std.specs.Prelude.{◌<◌, length};
+ghost use Rattle.delivery.specs.Deliveries.{echoes, effect, place as place_of};
+ghost use Rattle.delivery.specs.Hearings.{Hears, Makes, Worded, word_of};
+ghost use Rattle.delivery.specs.declared.outcome.Outcome.TheVariants.{Taken as TakenIs};
+ghost use Rattle.frames.specs.Said.{ack as ack_of};
 ghost use Rattle.tables.specs.Plans.{lengths_of, plan_of};
-ghost use Rattle.tables.specs.Stations.{Ready};
 
 use crate::change::{Change, Delivery};
+use crate::heard::Spoken;
 use crate::meeting::meet_word;
-use crate::outcome::Outcome;
 use crate::places::word_place;
-use crate::sending::{echoes, quiet, sent_if, taken};
+use crate::sending::{echoes, sent, settled, taken};
 use frames::Message;
 use model::{Machine, Operation};
-use tables::{Numbers, Tables};
+use tables::Station;
+
+// What taking a speaker's word into its place does at a station.
+fn take_word<M: Machine>(
+    at: &Station<'_, '_, M>,
+    spoken: Spoken,
+    place: usize,
+    word: M::Op,
+) -> Delivery<M::Op>
+    requires worded { Worded M.Op.Operation.refused (plan_of at.now.numbers) spoken }
+    requires within { place < length at.now.tables.now.words.now }
+    ensures { Makes M.Op.Operation.bits (lengths_of at.now.tables.now) at.now.index (effect TakenIs spoken.speaker (place_of place (M.Op.Operation.bits word)) (echoes at.now.index spoken.origin spoken.speaker (ack_of at.now.index at.now.numbers.watch.faults spoken.sequence spoken.origin spoken.packed))) result }
+{
+    let ack = Message::Ack {
+        sequence: spoken.sequence,
+        origin: spoken.origin,
+        packed: spoken.packed,
+    };
+    let echo = echoes(at.index, spoken.origin, spoken.speaker).then_some(ack);
+    let frame = sent(at.index as u8, at.numbers.watch.faults, echo);
+    taken(Change::Place { at: place, word }, frame, None)
+}
 
 // What a speaker's word on an origin's sequence does at a station.
-pub(crate) fn hear_word<M: Machine>(
-    numbers: Numbers,
-    t: &Tables<'_, M>,
-    station: usize,
-    speaker: u8,
-    origin: u8,
-    sequence: u8,
-    packed: u64,
-) -> Delivery<M::Op>
-    requires ready { Ready (plan_of numbers) (lengths_of t.now) station }
-    requires speakers { (speaker < stations numbers.watch.faults) × (origin < stations numbers.watch.faults) }
-    requires sequence { (1 ≤ sequence) × (sequence ≤ numbers.watch.limit) }
-    requires accepted { M.Op.Operation.refused packed ≡ None }
-    ensures tells { told_by M.Op.Operation.bits result ≡ told (hears (plan_of numbers) (contents M.Op.Operation.bits M.Machine.means t.now) station (word_of origin sequence speaker packed)) }
-    ensures placed { Placed (lengths_of t.now) station result }
+pub(crate) fn hear_word<M: Machine>(at: &Station<'_, '_, M>, spoken: Spoken) -> Delivery<M::Op>
+    requires { Worded M.Op.Operation.refused (plan_of at.now.numbers) spoken }
+    ensures { Hears M.Op.Operation.bits M.Machine.means at.now.numbers at.now.tables.now at.now.index (word_of spoken) result }
 {
-    let word = match M::Op::unpack(packed) {
-        Ok(word) => word,
-        Err(_) => unreachable(),
+    let Ok(word) = M::Op::unpack(spoken.packed) else {
+        unreachable()
     };
-    let at = word_place(numbers.watch, station, origin, sequence, speaker);
-    match meet_word(t.words, at, &word) {
-        Outcome::Taken => {
-            let sends = echoes(station, origin, speaker);
-            let ack = Message::Ack {
-                sequence,
-                origin,
-                packed,
-            };
-            let frame = sent_if(sends, station as u8, numbers.watch.faults, &ack);
-            taken(Change::Place { at, word }, frame, None)
-        }
-        Outcome::Known => quiet(Outcome::Known, Change::Nothing),
-        Outcome::TwoFaced => quiet(Outcome::TwoFaced, Change::Accuse { speaker }),
-    }
+    let place = word_place(at, spoken);
+    let t = at.tables;
+    let outcome = meet_word(t.words, place, &word);
+    settled(
+        outcome,
+        spoken.speaker,
+        || take_word(at, spoken, place, word),
+    )
 }

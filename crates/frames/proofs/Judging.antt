@@ -1,13 +1,13 @@
-use Rattle.std.proofs.Common.{◌≡◌, ℕ, ◌-◌, ◌≤◌, true, false, eqb, ltb, List, [], ◌∷◌, length, get_or, take, drop, Some, None, Ok, Err, Option, sym, refl, ap, ◌∙◌, ⊎_elim, arith}
+use Rattle.std.proofs.Common.{◌≡◌, ℕ, ◌-◌, ◌≤◌, true, false, ltb, List, [], ◌∷◌, length, get_or, take, drop, Some, None, Ok, Err, Option, sym, refl, ap, ◌∙◌, ⊎_elim, arith}
 use Rattle.frames.proofs.Headers.{Fields}
-use Rattle.frames.specs.Kinds.{head_fault, kind_in, size}
-use Rattle.frames.specs.Meaning.{answer, body_fault, judged, meaning, of_kind, or_else, part_fault, said_in, split}
+use Rattle.frames.specs.Kinds.{checked, head_fault, kind_in, named}
+use Rattle.frames.specs.Meaning.{answer, body_fault, judged, meaning, of_kind, or_else, said_in, split}
 use Rattle.frames.specs.Said.{Said}
 use Rattle.frames.specs.declared.kind.Kind.{Kind}
 use Rattle.model.specs.declared.fault.Fault.{Fault}
 use Rattle.rows.specs.Bits.{field}
 use Rattle.std.proofs.lemmas.List.{take_rest}
-use Rattle.std.proofs.lemmas.Bool.{cases_Bool, cond-false, cond-true, eq-eqb, le-ltb, ltb-false}
+use Rattle.std.proofs.lemmas.Bool.{cases_Bool, cond-false, cond-true, le-ltb, ltb-false}
 
 -- A string of two bytes at least is a header and a body.
 pub two : (bytes : List ℕ) → 2 ≤ length bytes → take 2 bytes ≡ get_or bytes 0 0 ∷ get_or bytes 1 0 ∷ []
@@ -27,17 +27,36 @@ split_there refused head body k s f q kind p named =
     ∙ ap (λ x. judged refused kind s x (field head 10 6) body) p.faults
     ∙ ap (λ x. judged refused kind s f x body) p.sequence
 
+-- What the answer of a check says.
+pub checked_ok : (o : Option Fault) (u : Unit {0}) → Ok u ≡ checked o → o ≡ None
+checked_ok None u p = refl
+checked_ok (Some e) u p = cc
+
+pub checked_err : (o : Option Fault) (e : Fault) → Err e ≡ checked o → o ≡ Some e
+checked_err None e p = cc
+checked_err (Some x) e p = cc
+
+pub named_ok : (o : Option Kind) (kind : Kind) → Ok kind ≡ named o → o ≡ Some kind
+named_ok None kind p = cc
+named_ok (Some x) kind p = cc
+
+-- What the bytes mean, once the kind is known: what is said, or what is refused of the rest.
 pub meaning_of_kind : (refused : ℕ → Option Fault) (bytes : List ℕ) (k s f q : ℕ) (kind : Kind) → 2 ≤ length bytes
-    → Fields (get_or bytes 0 0 ∷ get_or bytes 1 0 ∷ []) k s f q → kind_in k ≡ Some kind
+    → Fields (get_or bytes 0 0 ∷ get_or bytes 1 0 ∷ []) k s f q → Ok kind ≡ named (kind_in k)
     → meaning refused bytes ≡ judged refused kind s f q (take (length bytes - 2) (drop 2 bytes))
-meaning_of_kind refused bytes k s f q kind long p named =
+meaning_of_kind refused bytes k s f q kind long p e =
     meaning-split refused bytes long
     ∙ ap (λ h. split refused h (drop 2 bytes)) (two bytes long)
-    ∙ split_there refused (get_or bytes 0 0 ∷ get_or bytes 1 0 ∷ []) (drop 2 bytes) k s f q kind p named
+    ∙ split_there refused (get_or bytes 0 0 ∷ get_or bytes 1 0 ∷ []) (drop 2 bytes) k s f q kind p (named_ok _ kind e)
     ∙ ap (judged refused kind s f q) (sym (take_rest bytes 2))
 
-pub answer-some : (o : Option Fault) (e : Fault) (s : Said) → o ≡ Some e → answer o s ≡ Err e
-answer-some o e s p = rw p
+pub judged_err : (refused : ℕ → Option Fault) (kind : Kind) (s f q : ℕ) (body : List ℕ) (e : Fault) → Err e ≡ checked (or_else (head_fault kind s f q) (body_fault refused kind f body))
+    → judged refused kind s f q body ≡ Err e
+judged_err refused kind s f q body e p = let o = checked_err _ e p in rw o
+
+pub judged_ok : (refused : ℕ → Option Fault) (kind : Kind) (s f q : ℕ) (body : List ℕ) (u : Unit {0}) → Ok u ≡ checked (or_else (head_fault kind s f q) (body_fault refused kind f body))
+    → judged refused kind s f q body ≡ Ok (said_in kind s f q body)
+judged_ok refused kind s f q body u p = let o = checked_ok _ u p in rw o
 
 pub answer-none : (o : Option Fault) (s : Said) → o ≡ None → answer o s ≡ Ok s
 answer-none o s p = rw p
@@ -52,13 +71,6 @@ or_none None b p = (refl, p)
 
 pub none_or : (a b : Option Fault) → a ≡ None → b ≡ None → or_else a b ≡ None
 none_or a b p q = rw p q
-
--- A sound header and a body of the right length are left to the fields of the body.
-pub left_to_parts : (refused : ℕ → Option Fault) (head parts : Option Fault) (kind : Kind) (f : ℕ) (body : List ℕ) → head ≡ None → length body ≡ size kind f
-    → parts ≡ part_fault refused kind f body → parts ≡ or_else head (body_fault refused kind f body)
-left_to_parts refused head parts kind f body none long e =
-    let t : eqb (length body) (size kind f) ≡ true = eq-eqb _ _ long in
-    rw (none, t) e
 
 -- What `Ok` says of the bytes: the kind, and that nothing is refused.
 kind_inv : (refused : ℕ → Option Fault) (o : Option Kind) (s f q : ℕ) (body : List ℕ) (said : Said) → of_kind refused o s f q body ≡ Ok said
@@ -96,27 +108,3 @@ read_inv refused bytes said e =
     let k = kind_inv refused (kind_in (field head 0 3)) (field head 3 4) (field head 7 3) (field head 10 6) body said (sym (meaning-split refused bytes long) ∙ e) in
     record { long = long; kind = k.0; named = k.1; is = judged_inv refused k.0 (field head 3 4) (field head 7 3) (field head 10 6) body said k.2 })
     (cases_Bool (ltb (length bytes) 2))
-
--- What reading knows of the bytes, once the kind is known.
-pub record Known (refused : ℕ → Option Fault) (bytes : List ℕ) (kind : Kind) (s f q : ℕ) (o : Option Fault) : Type 0 where
-  pub means : meaning refused bytes ≡ judged refused kind s f q (take (length bytes - 2) (drop 2 bytes))
-  pub refusal : o ≡ or_else (head_fault kind s f q) (body_fault refused kind f (take (length bytes - 2) (drop 2 bytes)))
-
-pub known_err : (refused : ℕ → Option Fault) (bytes : List ℕ) (kind : Kind) (s f q : ℕ) (o : Option Fault) (e : Fault) → Known refused bytes kind s f q o → o ≡ Some e → meaning refused bytes ≡ Err e
-known_err refused bytes kind s f q o e k p = k.means ∙ answer-some _ e _ (sym k.refusal ∙ p)
-
-pub known_ok : (refused : ℕ → Option Fault) (bytes : List ℕ) (kind : Kind) (s f q : ℕ) (o : Option Fault) (said : Said) → Known refused bytes kind s f q o → o ≡ None
-    → said ≡ said_in kind s f q (take (length bytes - 2) (drop 2 bytes)) → (meaning refused bytes ≡ Ok said) × (head_fault kind s f q ≡ None)
-known_ok refused bytes kind s f q o said k p e =
-    let none = sym k.refusal ∙ p in
-    (k.means ∙ answer-none _ _ none ∙ ap Ok (sym e), (or_none (head_fault kind s f q) _ none).0)
-
-pub known : (refused : ℕ → Option Fault) (bytes : List ℕ) (kind : Kind) (k s f q : ℕ) (named : Option Kind) (o : Option Fault) → 2 ≤ length bytes
-    → k ≡ field (get_or bytes 0 0 ∷ get_or bytes 1 0 ∷ []) 0 3 → s ≡ field (get_or bytes 0 0 ∷ get_or bytes 1 0 ∷ []) 3 4
-    → f ≡ field (get_or bytes 0 0 ∷ get_or bytes 1 0 ∷ []) 7 3 → q ≡ field (get_or bytes 0 0 ∷ get_or bytes 1 0 ∷ []) 10 6
-    → named ≡ kind_in k → named ≡ Some kind → o ≡ or_else (head_fault kind s f q) (body_fault refused kind f (take (length bytes - 2) (drop 2 bytes)))
-    → Known refused bytes kind s f q o
-known refused bytes kind k s f q named o long ek es ef eq en is refusal = record {
-  means = meaning_of_kind refused bytes k s f q kind long (record { kind = sym ek; sender = sym es; faults = sym ef; sequence = sym eq }) (sym en ∙ is);
-  refusal = refusal;
-}

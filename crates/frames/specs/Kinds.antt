@@ -1,10 +1,10 @@
-use Rattle.std.specs.Prelude.{ℕ, ◌+◌, ◌*◌, Bool, true, false, cond, ◌||◌, Some, None, Option, ◌==◌, nat_le, nat_lt}
+use Rattle.std.specs.Prelude.{ℕ, ◌+◌, ◌*◌, Bool, true, false, cond, ◌||◌, Some, None, Ok, Err, Option, Result, ◌==◌, nat_le, nat_lt}
 use Rattle.frames.specs.declared.kind.Kind.{Kind}
 use Rattle.frames.specs.declared.kind.Kind.TheVariants.{Request, Ack, Summary, Proposal, Prepare, Commit}
 use Rattle.model.specs.Faults.{fault}
 use Rattle.model.specs.declared.fault.Fault.{Fault}
 use Rattle.model.specs.declared.fault.Reason.{Reason}
-use Rattle.model.specs.declared.fault.Reason.TheVariants.{FrameFaultBound, FrameSender, FrameSequence}
+use Rattle.model.specs.declared.fault.Reason.TheVariants.{FrameKind, FrameFaultBound, FrameSender, FrameSequence}
 use Rattle.rows.specs.Bits.{room}
 
 -- Each kind by its number.
@@ -12,6 +12,11 @@ abbrev pub kind_in : ℕ → Option Kind
 kind_in k =
     cond (k == 1) (Some Request) (cond (k == 2) (Some Ack) (cond (k == 3) (Some Summary)
     (cond (k == 4) (Some Proposal) (cond (k == 5) (Some Prepare) (cond (k == 6) (Some Commit) None)))))
+
+-- The kind, or the fault of a number that no kind has.
+abbrev pub named : Option Kind → Result Kind Fault
+named (Some kind) = Ok kind
+named None = Err (fault FrameKind 0)
 
 abbrev pub kind_number : Kind → ℕ
 kind_number Request = 1
@@ -41,6 +46,11 @@ bad_sequence Commit q = outside 1 63 q
 abbrev pub unless : Bool → Reason → ℕ → Option Fault → Option Fault
 unless true reason place next = Some (fault reason place)
 unless false reason place next = next
+
+-- The answer of a check: Ok where nothing is refused.
+abbrev pub checked : Option Fault → Result (Unit {0}) Fault
+checked None = Ok tt
+checked (Some e) = Err e
 
 -- What is refused of a header with this kind, sender, f and sequence.
 abbrev pub head_fault : Kind → ℕ → ℕ → ℕ → Option Fault

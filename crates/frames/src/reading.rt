@@ -1,76 +1,72 @@
 ghost use Rattle.std.specs.Prelude.{◌≡◌, ℕ, ◌+◌, ◌-◌, ◌*◌, ◌<◌, ◌≤◌, min, drop, IfOk, None, Ok, Err};
-ghost use Rattle.frames.specs.Kinds.{head_fault};
+ghost use Rattle.frames.specs.Kinds.{checked, head_fault};
 ghost use Rattle.frames.specs.Meaning.{body_fault, filling_fault, meaning, or_else, part_fault, said_in, shifted};
 ghost use Rattle.frames.specs.Views.{Alone, Borrows, Sound, answered, header_of, kind_is, said_of};
 ghost use Rattle.frames.specs.Writing.{frame as frame_of, unfit};
 ghost use Rattle.frames.specs.declared.kind.Kind.TheVariants.{Ack};
 
-use crate::heads::{head_fault, numbered, room, size, stations};
 use crate::kind::{Frame, Header, Kind};
 use model::{Fault, Operation, Reason};
-use rows::{bits, word};
+use rows::{bits, room, word};
 
-// What is refused of an operation that begins at this bit of a frame.
-fn refusal<O: Operation + Drop>(packed: u64, at: u16) -> Option<Fault>
-    ensures { result ≡ shifted at (O.Operation.refused packed) }
+// Whether an operation with these bits, which begin at this bit of a frame, is one.
+fn check_operation<O: Operation + Drop>(packed: u64, at: u16) -> Result<(), Fault>
+    ensures { result ≡ checked (shifted at (O.Operation.refused packed)) }
 {
     match O::unpack(packed) {
-        Ok(_) => None,
-        Err(e) => Some(Fault::new(e.reason, e.place.saturating_add(at))),
+        Ok(_) => Ok(()),
+        Err(e) => Err(Fault::new(e.reason, e.place.saturating_add(at))),
     }
 }
 
-// What is refused of the bits after the last of n entries.
-fn filling(n: usize, body: &[u8]) -> Option<Fault>
+// Whether the bits after the last of n entries are 0.
+fn check_filling(n: usize, body: &[u8]) -> Result<(), Fault>
     requires { n ≤ 256 }
-    ensures { result ≡ filling_fault n body.now }
+    ensures { result ≡ checked (filling_fault n body.now) }
 {
     let end = 6 * n;
     if bits(body, end, (8 * room(n) - end) as u32) > 0 {
-        return Some(Fault::new(Reason::FrameFilling, (16 + end) as u16));
+        return Err(Fault::new(Reason::FrameFilling, (16 + end) as u16));
     }
-    None
+    Ok(())
 }
 
-// What is refused of the fields of an ack's body.
-fn ack_fault<O: Operation + Drop>(faults: u8, body: &[u8]) -> Option<Fault>
-    requires { faults ≤ 5 }
-    ensures { result ≡ part_fault O.Operation.refused Ack faults body.now }
+// Whether the fields of an ack's body are sound.
+fn check_ack<O: Operation + Drop>(header: Header, body: &[u8]) -> Result<(), Fault>
+    ensures { result ≡ checked (part_fault O.Operation.refused Ack header.faults body.now) }
 {
-    if stations(faults) <= bits(body, 0, 4) as usize {
-        return Some(Fault::new(Reason::FrameOrigin, 16));
+    if header.stations() <= bits(body, 0, 4) as usize {
+        return Err(Fault::new(Reason::FrameOrigin, 16));
     }
     if bits(body, 4, 4) > 0 {
-        return Some(Fault::new(Reason::FrameFilling, 20));
+        return Err(Fault::new(Reason::FrameFilling, 20));
     }
-    refusal::<O>(word(body, 1), 24)
+    check_operation::<O>(word(body, 1), 24)
 }
 
-// What is refused of the fields of a body of this kind.
-fn part_fault<O: Operation + Drop>(kind: Kind, faults: u8, body: &[u8]) -> Option<Fault>
-    requires { faults ≤ 5 }
-    ensures { result ≡ part_fault O.Operation.refused kind faults body.now }
+// Whether the fields of a body of this kind are sound.
+fn check_fields<O: Operation + Drop>(kind: Kind, header: Header, body: &[u8]) -> Result<(), Fault>
+    requires { header.faults ≤ 5 }
+    ensures { result ≡ checked (part_fault O.Operation.refused kind header.faults body.now) }
 {
-    let n = stations(faults);
+    let n = header.stations();
     match kind {
-        Kind::Request => refusal::<O>(word(body, 0), 16),
-        Kind::Ack => ack_fault::<O>(faults, body),
-        Kind::Summary => filling(n, body),
-        _ => filling(n * n, body),
+        Kind::Request => check_operation::<O>(word(body, 0), 16),
+        Kind::Ack => check_ack::<O>(header, body),
+        Kind::Summary => check_filling(n, body),
+        Kind::Proposal | Kind::Prepare | Kind::Commit => check_filling(n * n, body),
     }
 }
 
-// What is refused of a frame of this kind with this header and this body.
-fn fault_in<O: Operation + Drop>(kind: Kind, header: Header, body: &[u8]) -> Option<Fault>
-    ensures { result ≡ or_else (head_fault kind header.sender header.faults header.sequence) (body_fault O.Operation.refused kind header.faults body.now) }
+// Whether this header and this body are a frame of this kind.
+fn check<O: Operation + Drop>(kind: Kind, header: Header, body: &[u8]) -> Result<(), Fault>
+    ensures { result ≡ checked (or_else (head_fault kind header.sender header.faults header.sequence) (body_fault O.Operation.refused kind header.faults body.now)) }
 {
-    if let Some(fault) = head_fault(kind, header.sender, header.faults, header.sequence) {
-        return Some(fault);
+    header.check(kind)?;
+    if body.len() != header.size(kind) {
+        return Err(Fault::new(Reason::FrameLength, 0));
     }
-    if body.len() != size(kind, header.faults) {
-        return Some(Fault::new(Reason::FrameLength, 0));
-    }
-    part_fault::<O>(kind, header.faults, body)
+    check_fields::<O>(kind, header, body)
 }
 
 // The frame of this kind with this header and this body.
@@ -117,16 +113,12 @@ pub fn read<O: Operation + Drop>(bytes: &[u8]) -> Result<Frame<'_>, Fault>
         return Err(Fault::new(Reason::ShortFrame, 0));
     };
     let head = [*first, *second];
-    let Some(kind) = numbered(bits(&head, 0, 3)) else {
-        return Err(Fault::new(Reason::FrameKind, 0));
-    };
+    let kind = Kind::try_from(bits(&head, 0, 3))?;
     let header = Header {
         sender: bits(&head, 3, 4),
         faults: bits(&head, 7, 3),
         sequence: bits(&head, 10, 6),
     };
-    if let Some(fault) = fault_in::<O>(kind, header, body) {
-        return Err(fault);
-    }
+    check::<O>(kind, header, body)?;
     Ok(frame(kind, header, body))
 }

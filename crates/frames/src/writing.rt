@@ -1,21 +1,19 @@
 ghost use Rattle.std.specs.Prelude.{◌≡◌, ℕ, ◌+◌, ◌*◌, ◌<◌, ◌≤◌, length, take, IfOk, None};
-ghost use Rattle.frames.specs.Kinds.{kind_number};
+ghost use Rattle.frames.specs.Kinds.{checked};
 ghost use Rattle.frames.specs.Views.{Reads, Valued, said_by};
-ghost use Rattle.frames.specs.Writing.{body_of, count_fault, frame as frame_of, head_number, kind_of, leaves, part_unfit, sequence_of, written};
-ghost use Rattle.rows.specs.Values.{matrix_of, row_of};
+ghost use Rattle.frames.specs.Writing.{body_of, count_fault, frame as frame_of, kind_of, leaves, part_unfit, sequence_of, written};
 
-use crate::heads::{head_fault, size, stations};
-use crate::kind::{Kind, Message};
+use crate::kind::{Header, Kind, Message};
 use model::{Fault, Reason};
-use rows::{Matrix, Row};
 
-impl Kind {
-    // The number in the header.
-    pub fn number(self) -> u8
-        ensures { result ≡ kind_number self }
-    {
-        self as u8
+// Whether there are n entries.
+fn check_count(entries: &[u8], n: usize) -> Result<(), Fault>
+    ensures { result ≡ checked (count_fault entries.now n) }
+{
+    if entries.len() != n {
+        return Err(Fault::new(Reason::FrameLength, 0));
     }
+    Ok(())
 }
 
 impl Message {
@@ -32,113 +30,86 @@ impl Message {
         }
     }
 
-    // The sequence in the header: 0 in a summary.
-    pub(crate) fn sequence(&self) -> u8
-        ensures { (s f : ℕ) → result ≡ sequence_of (said_by s f self.now) }
+    // The header of the frame that says this. The sequence of a summary is 0.
+    pub(crate) fn header(&self, sender: u8, faults: u8) -> Header
+        ensures names { (result.sender ≡ sender) × (result.faults ≡ faults) }
+        ensures sequence { (s f : ℕ) → result.sequence ≡ sequence_of (said_by s f self.now) }
+    {
+        let sequence = match self {
+            Message::Request { sequence, .. }
+            | Message::Ack { sequence, .. }
+            | Message::Proposal { sequence, .. }
+            | Message::Prepare { sequence, .. }
+            | Message::Commit { sequence, .. } => *sequence,
+            Message::Summary { .. } => 0,
+        };
+        Header {
+            sender,
+            faults,
+            sequence,
+        }
+    }
+
+    // Whether reading would refuse nothing of the body that says this.
+    fn check(&self, header: Header) -> Result<(), Fault>
+        ensures { (s : ℕ) → result ≡ checked (part_unfit (said_by s header.faults self.now)) }
+    {
+        let n = header.stations();
+        match self {
+            Message::Request { .. } => Ok(()),
+            Message::Ack { origin, .. } => {
+                if n <= *origin as usize {
+                    return Err(Fault::new(Reason::FrameOrigin, 16));
+                }
+                Ok(())
+            }
+            Message::Summary { row } => check_count(row.as_slice(), n),
+            Message::Proposal { matrix, .. }
+            | Message::Prepare { matrix, .. }
+            | Message::Commit { matrix, .. } => check_count(matrix.entries.as_slice(), n * n),
+        }
+    }
+
+    // Fills `to` with the body that says this.
+    #[tactic(auto, using(crate::proofs::Bodies::word_bytes_lem, crate::proofs::Sending::fills_ack))]
+    fn fill(&self, header: Header, to: &mut [u8])
+        requires few { header.faults ≤ 5 }
+        requires fits { part_unfit (said_by 0 header.faults self.now) ≡ None }
+        requires long { length to.old ≡ length (body_of (said_by 0 header.faults self.now)) }
+        ensures body { to.new ≡ body_of (said_by 0 header.faults self.now) }
+        ensures values { Valued (said_by 0 header.faults self.now) }
     {
         match self {
-            Message::Request { sequence, .. } => *sequence,
-            Message::Ack { sequence, .. } => *sequence,
-            Message::Summary { .. } => 0,
-            Message::Proposal { sequence, .. } => *sequence,
-            Message::Prepare { sequence, .. } => *sequence,
-            Message::Commit { sequence, .. } => *sequence,
-        }
-    }
-}
-
-fn row_fault(row: &Row, n: usize) -> Option<Fault>
-    ensures { result ≡ count_fault (row_of row.now) n }
-{
-    if row.side as usize != n {
-        return Some(Fault::new(Reason::FrameLength, 0));
-    }
-    None
-}
-
-fn matrix_fault(matrix: &Matrix, n: usize) -> Option<Fault>
-    ensures { result ≡ count_fault (matrix_of matrix.now) (n * n) }
-{
-    if matrix.side as usize != n {
-        return Some(Fault::new(Reason::FrameLength, 0));
-    }
-    None
-}
-
-// What reading would refuse of the body that says this.
-fn part_unfit(faults: u8, message: &Message) -> Option<Fault>
-    ensures { (s : ℕ) → result ≡ part_unfit (said_by s faults message.now) }
-{
-    let n = stations(faults);
-    match message {
-        Message::Request { .. } => None,
-        Message::Ack { origin, .. } => {
-            if n <= *origin as usize {
-                return Some(Fault::new(Reason::FrameOrigin, 16));
+            Message::Request { packed, .. } => to.copy_from_slice(&packed.to_be_bytes()),
+            Message::Ack { origin, packed, .. } => {
+                to[0] = *origin * 16;
+                to[1..9].copy_from_slice(&packed.to_be_bytes());
             }
-            None
+            Message::Summary { row } => {
+                row.pack(to);
+            }
+            Message::Proposal { matrix, .. }
+            | Message::Prepare { matrix, .. }
+            | Message::Commit { matrix, .. } => {
+                matrix.pack(to);
+            }
         }
-        Message::Summary { row } => row_fault(row, n),
-        Message::Proposal { matrix, .. } => matrix_fault(matrix, n),
-        Message::Prepare { matrix, .. } => matrix_fault(matrix, n),
-        Message::Commit { matrix, .. } => matrix_fault(matrix, n),
     }
 }
 
 // The length of the frame that says this, or why none is written into so many bytes.
-fn decide(sender: u8, faults: u8, message: &Message, space: usize) -> Result<usize, Fault>
-    ensures { result ≡ written (said_by sender faults message.now) space }
+fn decide(header: Header, message: &Message, space: usize) -> Result<usize, Fault>
+    requires { (s f : ℕ) → header.sequence ≡ sequence_of (said_by s f message.now) }
+    ensures { result ≡ written (said_by header.sender header.faults message.now) space }
 {
     let kind = message.kind();
-    if let Some(fault) = head_fault(kind, sender, faults, message.sequence()) {
-        return Err(fault);
-    }
-    if let Some(fault) = part_unfit(faults, message) {
-        return Err(fault);
-    }
-    let len = 2 + size(kind, faults);
+    header.check(kind)?;
+    message.check(header)?;
+    let len = 2 + header.size(kind);
     if space < len {
         return Err(Fault::new(Reason::ShortBuffer, 0));
     }
     Ok(len)
-}
-
-// The number that the header's 16 bits write.
-fn heading(kind: Kind, sender: u8, faults: u8, sequence: u8) -> u16
-    requires low { (sender < 16) × (faults ≤ 5) }
-    requires short { sequence < 64 }
-    ensures { result ≡ head_number (kind_number kind) sender faults sequence }
-{
-    ((kind.number() as u16 * 16 + sender as u16) * 8 + faults as u16) * 64 + sequence as u16
-}
-
-// Fills `to` with the body that says this.
-fn fill(message: &Message, faults: u8, to: &mut [u8])
-    requires few { faults ≤ 5 }
-    requires fits { part_unfit (said_by 0 faults message.now) ≡ None }
-    requires long { length to.old ≡ length (body_of (said_by 0 faults message.now)) }
-    ensures body { to.new ≡ body_of (said_by 0 faults message.now) }
-    ensures values { Valued (said_by 0 faults message.now) }
-{
-    match message {
-        Message::Request { packed, .. } => to.copy_from_slice(&packed.to_be_bytes()),
-        Message::Ack { origin, packed, .. } => {
-            to[0] = *origin * 16;
-            to[1..9].copy_from_slice(&packed.to_be_bytes());
-        }
-        Message::Summary { row } => {
-            row.pack(to);
-        }
-        Message::Proposal { matrix, .. } => {
-            matrix.pack(to);
-        }
-        Message::Prepare { matrix, .. } => {
-            matrix.pack(to);
-        }
-        Message::Commit { matrix, .. } => {
-            matrix.pack(to);
-        }
-    }
 }
 
 // Writes the frame that says this into the front of `to`, and answers its length.
@@ -147,10 +118,10 @@ pub fn write(sender: u8, faults: u8, message: &Message, to: &mut [u8]) -> Result
     ensures leaves { to.new ≡ leaves result (frame_of (said_by sender faults message.now)) to.old }
     ensures reads { IfOk result (λ len. Reads (take len to.new) (said_by sender faults message.now)) }
 {
-    let len = decide(sender, faults, message, to.len())?;
-    let head = heading(message.kind(), sender, faults, message.sequence());
-    to[0] = (head / 256) as u8;
-    to[1] = (head % 256) as u8;
-    fill(message, faults, &mut to[2..len]);
+    let header = message.header(sender, faults);
+    let len = decide(header, message, to.len())?;
+    let head = header.number(message.kind());
+    to[..2].copy_from_slice(&head.to_be_bytes());
+    message.fill(header, &mut to[2..len]);
     Ok(len)
 }

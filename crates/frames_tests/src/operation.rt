@@ -11,7 +11,7 @@ impl Word for Plain {
     ghost means = { λ u. u.packed };
 
     fn same(&self, other: &Plain) -> bool {
-        self.packed == other.packed
+        self == other
     }
 }
 
@@ -20,13 +20,13 @@ impl Operation for Plain {
 
     ghost refused = { plain_fault };
 
-    ghost fits = { first_of (Prim.search rules, Prim.grind (arith, Self.row.coded.inj)) };
+    ghost fits = { Prim.search rules };
 
-    ghost one = { first_of (Prim.search rules, Prim.grind (arith, Self.row.coded.inj)) };
+    ghost one = { Prim.search rules };
 
-    ghost apart = { first_of (Prim.search rules, Prim.grind (arith, Self.row.coded.inj)) };
+    ghost apart = { Prim.search rules };
 
-    ghost whole = { first_of (Prim.search rules, Prim.grind (arith, Self.row.coded.inj)) };
+    ghost whole = { Prim.search rules };
 
     fn pack(&self) -> u64 {
         self.packed

@@ -1,7 +1,7 @@
 ghost use Rattle.std.specs.Prelude.{◌≡◌, ℕ, ◌/◌, ◌%◌, ◌^◌, ◌<◌};
 
 // An operation for the tests: 64 bits, the first two 01 and the next six below 40.
-#[derive(Clone, Copy)]
+#[derive(Clone, Copy, PartialEq, Eq, Debug)]
 pub struct Plain {
     pub packed: u64,
     ghost fits: { packed < 2 ^ 64 },

@@ -8,17 +8,14 @@ use std::test::Fail;
 const ORDER: u64 = 0x454B_0B75_9F00_0001;
 
 fn refused(bytes: &[u8], number: u8, place: u16) -> bool {
-    match read::<Plain>(bytes) {
-        Ok(_) => false,
-        Err(e) => e.reason.number() == number && e.place == place,
-    }
+    read::<Plain>(bytes).is_err_and(|e| e.reason.number() == number && e.place == place)
 }
 
 // Whether the message is written as these bytes, and nothing behind them.
 fn writes(sender: u8, faults: u8, message: &Message, expected: &[u8]) -> bool {
     let mut to = [0xAA; 200];
     match write(sender, faults, message, &mut to) {
-        Ok(len) => len < 200 && to[0..len] == expected[0..expected.len()] && to[len] == 0xAA,
+        Ok(len) => len < 200 && to[..len] == expected[..] && to[len] == 0xAA,
         Err(_) => false,
     }
 }
@@ -436,12 +433,7 @@ fn refused_writes(rt: HostRuntime) {
 }
 
 fn untouched(bytes: &[u8]) -> bool {
-    for x in bytes {
-        if *x != 0xAA {
-            return false;
-        }
-    }
-    true
+    bytes.iter().all(|x| *x == 0xAA)
 }
 
 // Whether writing into this buffer of bytes AA is refused with this fault, and leaves it.
@@ -459,7 +451,7 @@ fn unwritten(
     }
 }
 
-// Each kind has its number.
+// Each kind has its number, and no other number has a kind.
 #[test]
 fn kinds(rt: HostRuntime) {
     assert!(rt;
@@ -468,4 +460,17 @@ fn kinds(rt: HostRuntime) {
     assert!(rt;
         Kind::Proposal.number() == 4 && Kind::Prepare.number() == 5 && Kind::Commit.number() == 6
     );
+    assert!(rt; Kind::try_from(6).is_ok_and(|kind| kind == Kind::Commit));
+    assert!(rt; Kind::try_from(7).is_err_and(|e| e.reason.number() == 12 && e.place == 0));
+}
+
+// A header for f 5 is one of 16 stations.
+#[test]
+fn stations(rt: HostRuntime) {
+    let header = Header {
+        sender: 15,
+        faults: 5,
+        sequence: 63,
+    };
+    assert!(rt; header.stations() == 16);
 }

@@ -1,9 +1,8 @@
-use Rattle.std.specs.Prelude.{◌≡◌, ℕ, List, Some, None, Ok, Err, Option}
+use Rattle.std.specs.Prelude.{◌≡◌, ℕ, List, Some, None, Ok, Err, Option, Result}
 use Rattle.frames.specs.Meaning.{meaning}
 use Rattle.frames.specs.Said.{Said, request, ack, summary, proposal, prepare, commit}
 use Rattle.frames.specs.Views.{said_of}
-use Rattle.frames_tool.specs.declared.told.Told.{Told}
-use Rattle.frames_tool.specs.declared.told.Told.TheVariants as told
+use Rattle.frames_tool.specs.declared.told.Report.{Report}
 use Rattle.model.specs.declared.fault.Fault.{Fault}
 use Rattle.std.specs.Option.{option_map}
 
@@ -26,6 +25,6 @@ accepted refused None = None
 accepted refused (Some u) = kept (refused u) u
 
 -- What is told of bytes: what they mean, with the operation, or the fault.
-abbrev pub Tells : {O : Type 0} → (O → ℕ) → (ℕ → Option Fault) → List ℕ → Told O → Type 0
-Tells bits refused bytes (told.Frame f o) = (meaning refused bytes ≡ Ok (said_of f)) × (option_map bits o ≡ accepted refused (operation_in (said_of f)))
-Tells bits refused bytes (told.Refused e) = meaning refused bytes ≡ Err e
+abbrev pub Tells : {O : Type 0} → (O → ℕ) → (ℕ → Option Fault) → List ℕ → Result (Report O) Fault → Type 0
+Tells bits refused bytes (Ok r) = (meaning refused bytes ≡ Ok (said_of r.frame)) × (option_map bits r.operation ≡ accepted refused (operation_in (said_of r.frame)))
+Tells bits refused bytes (Err e) = meaning refused bytes ≡ Err e

@@ -7,18 +7,22 @@ mod told;
 
 use canal::{GateOrder, Transfer};
 use hex::unhex;
-use lines::split_line;
-use model::Operation;
+use lines::Lines;
+use model::{Fault, Operation};
 use std::io::Read;
 use std::{env, fmt, io};
 use told::tell;
 
 fn print_line<O: Operation + fmt::Display + Drop>(rt: &HostRuntime, line: &[u8]) -> io::Result<()> {
     match unhex(rt.alloc(), line)? {
-        Some(bytes) => {
-            let told = tell::<O>(bytes.as_slice());
-            println!(rt; "{told}")
-        }
+        Some(bytes) => match tell::<O>(bytes.as_slice()) {
+            Ok(report) => println!(rt; "{report}"),
+            Err(Fault { reason, place }) => {
+                let number = reason.number();
+                let layer = reason.layer() as u8;
+                println!(rt; "no {number} {layer} {place}")
+            }
+        },
         None => println!(rt; "bad"),
     }
 }
@@ -27,11 +31,8 @@ fn print_frames<O: Operation + fmt::Display + Drop>(
     rt: &HostRuntime,
     text: &[u8],
 ) -> io::Result<()> {
-    let mut rest = text;
-    while !rest.is_empty() {
-        let (line, more) = split_line(rest);
+    for line in Lines::of(text) {
         print_line::<O>(rt, line)?;
-        rest = more;
     }
     Ok(())
 }
@@ -40,11 +41,10 @@ fn main(rt: HostRuntime) -> io::Result<()> {
     let mut text = Vec::new(rt.alloc());
     rt.stdin().read_to_end(&mut text)?;
     for word in env::args(&rt)? {
-        if word.as_str() == "gate" {
-            print_frames::<GateOrder>(&rt, text.as_slice())?;
-        }
-        if word.as_str() == "transfer" {
-            print_frames::<Transfer>(&rt, text.as_slice())?;
+        match word.as_str() {
+            "gate" => print_frames::<GateOrder>(&rt, text.as_slice())?,
+            "transfer" => print_frames::<Transfer>(&rt, text.as_slice())?,
+            _ => {}
         }
     }
     Ok(())

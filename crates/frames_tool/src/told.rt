@@ -5,41 +5,39 @@ ghost use Rattle.std.specs.Option.{option_map};
 
 use frames::{Frame, read};
 use model::{Fault, Operation};
-use rows::entry;
+use rows::{Matrix, Row};
 use std::fmt;
 
-// What is told of bytes: the frame in them, with its operation if it carries one, or why there is none.
+// A frame that was read, with its operation if it carries one.
 #[derive(Drop)]
-pub enum Told<'a, O> {
-    Frame(Frame<'a>, Option<O>),
-    Refused(Fault),
+pub struct Report<'a, O> {
+    pub frame: Frame<'a>,
+    pub operation: Option<O>,
 }
 
 // The operation of a request or an ack, unless it is refused.
 fn carried<O: Operation + Drop>(frame: Frame<'_>) -> Option<O>
     ensures { option_map O.Operation.bits result ≡ accepted O.Operation.refused (operation_in (said_of frame.entry)) }
 {
-    let packed = match frame {
-        Frame::Request { packed, .. } => packed,
-        Frame::Ack { packed, .. } => packed,
-        _ => return None,
-    };
-    O::unpack(packed).ok()
-}
-
-// What the bytes say, or why they say nothing.
-pub fn tell<O: Operation + Drop>(bytes: &[u8]) -> Told<'_, O>
-    ensures { Tells O.Operation.bits O.Operation.refused bytes.now result }
-{
-    match read::<O>(bytes) {
-        Ok(frame) => Told::Frame(frame, carried::<O>(frame)),
-        Err(e) => Told::Refused(e),
+    match frame {
+        Frame::Request { packed, .. } | Frame::Ack { packed, .. } => O::unpack(packed).ok(),
+        _ => None,
     }
 }
 
-fn write_entries<W: fmt::Write>(f: &mut fmt::Formatter<W>, part: &[u8], n: usize) -> fmt::Result {
-    for k in 0..n {
-        let x = entry(part, k);
+// What the bytes say, or why they say nothing.
+pub fn tell<O: Operation + Drop>(bytes: &[u8]) -> Result<Report<'_, O>, Fault>
+    ensures { Tells O.Operation.bits O.Operation.refused bytes.now result }
+{
+    let frame = read::<O>(bytes)?;
+    Ok(Report {
+        frame,
+        operation: carried::<O>(frame),
+    })
+}
+
+fn write_entries<W: fmt::Write>(f: &mut fmt::Formatter<W>, entries: &[u8]) -> fmt::Result {
+    for x in entries {
         write!(f, " {x}")?;
     }
     Ok(())
@@ -51,34 +49,26 @@ fn write_frame<W: fmt::Write>(f: &mut fmt::Formatter<W>, frame: &Frame<'_>) -> f
     let sender = header.sender;
     let faults = header.faults;
     let sequence = header.sequence;
-    let n = 3 * faults as usize + 1;
+    let n = header.stations();
     write!(f, "ok {kind} {sender} {faults} {sequence}")?;
     match *frame {
         Frame::Request { packed, .. } => write!(f, " {packed:016X}"),
         Frame::Ack { origin, packed, .. } => write!(f, " {origin} {packed:016X}"),
-        Frame::Summary { row, .. } => write_entries(f, row, n),
-        Frame::Proposal { matrix, .. } => write_entries(f, matrix, n * n),
-        Frame::Prepare { matrix, .. } => write_entries(f, matrix, n * n),
-        Frame::Commit { matrix, .. } => write_entries(f, matrix, n * n),
+        Frame::Summary { row, .. } => write_entries(f, Row::unpack(n, row).as_slice()),
+        Frame::Proposal { matrix, .. }
+        | Frame::Prepare { matrix, .. }
+        | Frame::Commit { matrix, .. } => {
+            write_entries(f, Matrix::unpack(n, matrix).entries.as_slice())
+        }
     }
 }
 
-impl<O: fmt::Display> fmt::Display for Told<'_, O> {
+impl<O: fmt::Display> fmt::Display for Report<'_, O> {
     fn fmt<W: fmt::Write>(&self, f: &mut fmt::Formatter<W>) -> fmt::Result {
-        match self {
-            Told::Frame(frame, operation) => {
-                write_frame(f, frame)?;
-                match operation {
-                    Some(u) => write!(f, " {u}"),
-                    None => Ok(()),
-                }
-            }
-            Told::Refused(e) => {
-                let number = e.reason.number();
-                let layer = e.reason.layer() as u8;
-                let place = e.place;
-                write!(f, "no {number} {layer} {place}")
-            }
+        write_frame(f, &self.frame)?;
+        match &self.operation {
+            Some(u) => write!(f, " {u}"),
+            None => Ok(()),
         }
     }
 }

@@ -1,4 +1,4 @@
-use Rattle.std.specs.Prelude.{ℕ, zero, suc, ◌+◌, ◌-◌, ◌*◌, Bool, true, false, cond, not, ◌&&◌, ◌||◌, List, [], ◌∷◌, take, drop, Some, None, fold, Option, ◌==◌, nat_le, nat_lt, slice_index}
+use Rattle.std.specs.Prelude.{ℕ, zero, suc, ◌+◌, ◌-◌, ◌*◌, Bool, true, false, cond, not, ◌&&◌, ◌||◌, List, [], ◌∷◌, length, take, drop, Some, None, fold, Option, ◌==◌, nat_le, nat_lt, slice_index}
 use Rattle.std.specs.Option.{option_map}
 use Rattle.std.specs.List.{prefix_len}
 
@@ -52,3 +52,13 @@ first_line text = take (line_length text) text
 -- What follows the newline.
 abbrev pub other_lines : List ℕ → List ℕ
 other_lines text = drop (line_length text + 1) text
+
+-- The first n lines of a text: the last of a text may end without a newline.
+abbrev pub lines_within : ℕ → List ℕ → List (List ℕ)
+lines_within zero text = []
+lines_within (suc n) [] = []
+lines_within (suc n) (b ∷ text) = first_line (b ∷ text) ∷ lines_within n (other_lines (b ∷ text))
+
+-- The lines of a text: no more than it has bytes.
+abbrev pub lines_of : List ℕ → List (List ℕ)
+lines_of text = lines_within (length text) text

@@ -2,15 +2,10 @@
 #![tactic(auto)]
 
 ghost use Rattle.std.specs.Prelude.{◌≡◌, ℕ, ◌<◌, ◌≤◌, true, length, slice_index};
-ghost use Rattle.lines.specs.Numbers.{decimal, digit, field_at, first_line, number_at, numbers_of, other_lines};
+ghost use Rattle.lines.specs.Numbers.{decimal, digit, field_at, first_line, line_length, lines_of, number_at, numbers_of, other_lines};
+ghost use Rattle.std.specs.Iterator.{YieldsFirstRef, item_count};
 ghost use Rattle.std.specs.Option.{option_map};
 ghost use Rattle.std.specs.List.{prefix_len};
-
-fn is_digit(b: u8) -> bool
-    ensures { result ≡ digit b }
-{
-    48 <= b && b <= 57
-}
 
 // How many digits the text begins with.
 fn count(text: &[u8]) -> usize
@@ -18,12 +13,7 @@ fn count(text: &[u8]) -> usize
     ensures within { result ≤ length text.now }
     ensures all { (k : ℕ) → k < result → digit (slice_index text.now k) ≡ true }
 {
-    for (i, b) in text.iter().enumerate() {
-        if !is_digit(*b) {
-            return i;
-        }
-    }
-    text.len()
+    text.iter().take_while(|b| b.is_ascii_digit()).count()
 }
 
 // The number that these digits write.
@@ -47,20 +37,22 @@ fn number(text: &[u8]) -> Option<(u32, &[u8])>
     if n < 1 || n > 9 {
         return None;
     }
-    Some((value(&text[0..n]), &text[n..]))
+    let (digits, rest) = text.split_at(n);
+    Some((value(digits), rest))
 }
 
 // The number at the front of the text: the first of a line, or another one after a single space; and what follows it.
+// Kept: a flag, since the space is all that tells the first number from the others, and the choice has to be one call.
 fn field(text: &[u8], first: bool) -> Option<(u32, &[u8])>
     ensures { option_map (λ p. (p.0, p.1.now)) result ≡ field_at first text.now }
 {
     if first {
         return number(text);
     }
-    if text.is_empty() || text[0] != b' ' {
+    let [b' ', rest @ ..] = text else {
         return None;
-    }
-    number(&text[1..])
+    };
+    number(rest)
 }
 
 // The K numbers of a line that holds just them, each of 1 to 9 digits, with single spaces between them.
@@ -69,12 +61,20 @@ pub fn numbers<const K: usize>(text: &[u8]) -> Option<[u32; K]>
 {
     let mut values = [0; K];
     let mut rest = text;
-    for i in 0..K {
-        let (value, more) = field(rest, i == 0)?;
-        values[i] = value;
+    for (i, value) in values.iter_mut().enumerate() {
+        let (found, more) = field(rest, i == 0)?;
+        *value = found;
         rest = more;
     }
     if rest.is_empty() { Some(values) } else { None }
+}
+
+// How many bytes come before the first newline.
+fn line_length(text: &[u8]) -> usize
+    ensures is { result ≡ line_length text.now }
+    ensures within { result ≤ length text.now }
+{
+    text.iter().take_while(|b| **b != b'\n').count()
 }
 
 // The text up to its first newline, and what follows that newline.
@@ -83,10 +83,40 @@ pub fn split_line(text: &[u8]) -> (&[u8], &[u8])
     ensures rest { result.1.now ≡ other_lines text.now }
     ensures shorter { 0 < length text.now → length result.1.now < length text.now }
 {
-    for (i, b) in text.iter().enumerate() {
-        if *b == b'\n' {
-            return (&text[0..i], &text[i + 1..]);
-        }
+    let (line, rest) = text.split_at(line_length(text));
+    match rest {
+        [_, others @ ..] => (line, others),
+        [] => (line, rest),
     }
-    (text, &text[text.len()..])
+}
+
+// The lines of a text, without their newlines.
+#[derive(Clone, Copy)]
+pub struct Lines<'a> {
+    rest: &'a [u8],
+}
+
+impl<'a> Lines<'a> {
+    pub fn of(text: &'a [u8]) -> Lines<'a>
+        ensures { result.rest.now ≡ text.now }
+    {
+        Lines { rest: text }
+    }
+}
+
+impl<'a> Iterator for Lines<'a> {
+    type Item = &'a [u8];
+
+    ghost next_gives = { YieldsFirstRef (λ s. lines_of s.rest.now) };
+
+    ghost remaining = { item_count (λ s. lines_of s.rest.now) };
+
+    fn next(&mut self) -> Option<&'a [u8]> {
+        if self.rest.is_empty() {
+            return None;
+        }
+        let (line, rest) = split_line(self.rest);
+        self.rest = rest;
+        Some(line)
+    }
 }

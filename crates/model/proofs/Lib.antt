@@ -2,3 +2,4 @@ pub mod Backing
 pub mod Deciding
 pub mod Meeting
 pub mod Members
+pub mod Words

@@ -42,7 +42,7 @@ shared_outside f A B faulty la lb (a, wa, qa, ha) (b, wb, qb, hb) few =
     (r.0, r.4, ha r.0 r.2, hb r.0 r.3)
 
 module _ {V : Type 0} where
-  some≢none : (v : V) → ◌≡◌ {A = Option V} None (Some v) → ⊥
+  pub some≢none : (v : V) → ◌≡◌ {A = Option V} None (Some v) → ⊥
   some≢none v e = let z : ◌≡◌ {A = ℕ} 0 1 = cc in omega arith
 
   pub holds_below : (places : List (Option V)) (v : V) (j : ℕ) → Holds places v j → j < length places
@@ -125,10 +125,6 @@ module _ {V : Type 0} where
 
   pub most_tally : (f : ℕ) (places : List (Option V)) (v : V) (m : ℕ) → Tally places v m → Ordered f places v → quorum f ≤ m
   most_tally f places v m (set, b, e) h = omega (arith, e, least_backers places v set (quorum f) b h)
-
-  -- if the word at a place is not ordered, no word there is
-  pub other_ordered : (f : ℕ) (places : List (Option V)) (at : ℕ) (v : V) → Holds places v at → OrderedAt f places at → Ordered f places v
-  other_ordered f places at v h (w, k, o) = subst (Ordered f places) (one_word places w v at k h) o
 
   pub ordered_somewhere : (f : ℕ) (places : List (Option V)) (v : V) → Ordered f places v → (at : ℕ) × (at < length places) × OrderedAt f places at
   ordered_somewhere f places v o =

@@ -75,6 +75,7 @@ impl Reason {
     pub fn number(self) -> u8
         ensures { result ≡ number_of self }
     {
+        // Kept: the enum's values are the numbers of the rules, so a `From` or a `match` would say no more than the cast.
         self as u8
     }
 
@@ -102,5 +103,14 @@ impl Fault {
         ensures { result ≡ fault reason place }
     {
         Fault { reason, place }
+    }
+}
+
+// A reason alone is a fault at place 0, so a `?` passes it on.
+impl From<Reason> for Fault {
+    ghost from_gives = { λ reason e. e ≡ fault reason 0 };
+
+    fn from(reason: Reason) -> Fault {
+        Fault::new(reason, 0)
     }
 }

@@ -1,5 +1,5 @@
 ghost use Rattle.std.specs.Prelude.{◌≡◌, ℕ, ◌*◌, ◌≤◌, length, Some, None, Decides, nat_le, slice_index_or};
-ghost use Rattle.model.specs.Quorums.{Answers, Backers, Certificate, Ordered, OrderedAt, Tally, held, meant, quorum, stations};
+ghost use Rattle.model.specs.Quorums.{Answers, Backers, Certificate, Ordered, Tally, held, meant, quorum, stations};
 
 use crate::sets::{count, with, without};
 use crate::traits::Word;
@@ -8,16 +8,14 @@ use crate::traits::Word;
 fn holds<W: Word>(place: &Option<W>, word: &W) -> bool
     ensures { Decides result (meant W.Word.means place.now ≡ Some (W.Word.means word.now)) }
 {
-    match place {
-        Some(held) => held.same(word),
-        None => false,
-    }
+    place.as_ref().is_some_and(|held| held.same(word))
 }
 
 // The set of the places, sixteen at most, that hold a word the same as the given one.
 fn backers<W: Word>(places: &[Option<W>], word: &W) -> u16
     ensures { Backers (held W.Word.means places.now) (W.Word.means word.now) result }
 {
+    // Kept: a fold would carry the loop's invariant as a clause of its closure, and read no plainer.
     let mut set = 0;
     for (j, place) in places.iter().enumerate() {
         if holds(place, word) {
@@ -38,13 +36,7 @@ pub fn tally<W: Word>(places: &[Option<W>], word: &W) -> u8
 pub fn word_at<W: Word>(places: &[Option<W>], at: usize) -> Option<&W>
     ensures { meant (λ u. W.Word.means u.now) result ≡ slice_index_or (held W.Word.means places.now) at None }
 {
-    if at >= places.len() {
-        return None;
-    }
-    match &places[at] {
-        Some(word) => Some(word),
-        None => None,
-    }
+    places.get(at)?.as_ref()
 }
 
 // Whether so many are a quorum.
@@ -66,27 +58,20 @@ fn are_enough(others: u8, f: u8) -> bool
 pub fn certified<W: Word>(places: &[Option<W>], head: usize, f: u8) -> Option<&W>
     ensures { Answers (Certificate f (held W.Word.means places.now) head) (meant (λ u. W.Word.means u.now) result) }
 {
-    match word_at(places, head) {
-        Some(word) => {
-            let others = count(without(backers(places, word), head));
-            if are_enough(others, f) {
-                Some(word)
-            } else {
-                None
-            }
-        }
-        None => None,
+    let word = word_at(places, head)?;
+    let others = count(without(backers(places, word), head));
+    if are_enough(others, f) {
+        Some(word)
+    } else {
+        None
     }
 }
 
-// Whether at least 2f + 1 places hold the word at this place.
-fn has_quorum<W: Word>(places: &[Option<W>], at: usize, f: u8) -> bool
-    ensures { Decides result (OrderedAt f (held W.Word.means places.now) at) }
+// Whether at least 2f + 1 places hold a word the same as the given one.
+fn has_quorum<W: Word>(places: &[Option<W>], word: &W, f: u8) -> bool
+    ensures { Decides result (Ordered f (held W.Word.means places.now) (W.Word.means word.now)) }
 {
-    match word_at(places, at) {
-        Some(word) => is_quorum(tally(places, word), f),
-        None => false,
-    }
+    is_quorum(tally(places, word), f)
 }
 
 // The word that at least 2f + 1 places hold, if there is one. Among 3f + 1 places there are never two.
@@ -94,10 +79,9 @@ pub fn ordered<W: Word>(places: &[Option<W>], f: u8) -> Option<&W>
     ensures finds { Answers (Ordered f (held W.Word.means places.now)) (meant (λ u. W.Word.means u.now) result) }
     ensures single { (v w : W.Word.Value) → length places.now ≤ stations f → Ordered f (held W.Word.means places.now) v → Ordered f (held W.Word.means places.now) w → v ≡ w }
 {
-    for at in 0..places.len() {
-        if has_quorum(places, at, f) {
-            return word_at(places, at);
-        }
-    }
-    None
+    places.iter().flatten().find(
+        |word|
+            ensures { Decides result (Ordered f (held W.Word.means places.entry.now) (W.Word.means word.now.now)) }
+        { has_quorum(places, word, f) },
+    )
 }

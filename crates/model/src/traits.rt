@@ -11,6 +11,7 @@ pub trait Word: Sized {
     ghost means: { Self → Value };
 
     // Yes exactly when the two meanings are equal.
+    // Kept: a method of its own and not `==`, since values that differ may mean the same, as rows do past their last entry.
     fn same(&self, other: &Self) -> bool
         ensures { Decides result (means self.now ≡ means other.now) };
 }
@@ -52,11 +53,13 @@ pub trait Machine: Sized {
     ghost code: { State → ℕ → ℕ };
 
     // Takes the operation, and answers its code.
+    // Kept: a number, since each machine has its own list of codes, and a run hands on any of them.
     fn apply(&mut self, u: &Self::Op) -> u8
         ensures state { means self.new ≡ step (means self.old) (Self.Op.Operation.bits u.now) }
         ensures answer { result ≡ code (means self.old) (Self.Op.Operation.bits u.now) };
 
     // Another machine of the same meaning.
+    // Kept: `Copy` would ask more of a machine, and a `clone` may fail.
     fn copy(&self) -> Self
         ensures { means result ≡ means self.now };
 }

@@ -1,25 +1,14 @@
 -- Tests over all numbers below n, and the two questions on rows.
 use Rattle.std.proofs.Common.{◌≡◌, ℕ, zero, suc, ◌+◌, ◌<◌, ◌≤◌, Bool, true, false, ltb, leb, ◌⊎◌, Decides, sym, refl, ap, ◌∙◌, subst, inl, inr, ⊎_elim, add-one, arith}
 use Rattle.std.proofs.lemmas.List.{ext_get_or}
-use Rattle.std.proofs.lemmas.Bool.{cases_Bool, cases_eq, cases_lt, and_from, and_left, and_right, or_from, or_left, or_right, leb-true, le-leb}
+use Rattle.std.proofs.lemmas.Bool.{cases_Bool, cases_eq, cases_lt, or_from, or_left, or_right, leb-true, le-leb}
 use Rattle.std.proofs.lemmas.Bool.Decides.{Decides-below_and, Decides-below_or, Decides-ltb, not_from_Decides}
 use Rattle.order.specs.Laws.{Questions, Stands, Standings, Itself, Transitive, Equal, RowLaws}
-use Rattle.order.specs.Rows.{Row, entry, every, any, none_smaller, some_larger, standing, UpToDate, Larger}
+use Rattle.order.specs.Rows.{Row, entry, any, none_smaller, some_larger, standing, UpToDate, Larger}
 use Rattle.order.specs.declared.standing.Standing.{Standing}
 use Rattle.order.specs.declared.standing.Standing.TheVariants.{Newer, Known, Inconsistent}
 
 module _ (test : ℕ → Bool) where
-  pub every_more : (i : ℕ) → every i test ≡ true → test i ≡ true → every (i + 1) test ≡ true
-  every_more i h t = rw add-one (and_from (test i) (every i test) t h)
-
-  pub every_fails : (n k : ℕ) → k < n → test k ≡ false → every n test ≡ false
-  every_fails zero k l t = absurd (omega arith)
-  every_fails (suc n) k l t =
-      elim (cases_eq k n) [
-        | inl e ↦ and_left (test n) (every n test) (ap test (sym e) ∙ t)
-        | inr ne ↦ and_right (test n) (every n test) (every_fails n k (omega arith) t)
-      ]
-
   pub any_more : (i : ℕ) → any i test ≡ false → test i ≡ false → any (i + 1) test ≡ false
   any_more i h t = rw add-one (or_from (test i) (any i test) t h)
 

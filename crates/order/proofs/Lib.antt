@@ -3,3 +3,4 @@ pub mod Parts
 pub mod Searching
 pub mod Sequence
 pub mod Spans
+pub mod Ranges

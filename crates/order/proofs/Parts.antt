@@ -1,5 +1,5 @@
 -- Parts of a flat list of places, and answers.
-use Rattle.std.proofs.Common.{◌≡◌, ℕ, zero, suc, ◌+◌, ◌-◌, ◌*◌, ◌<◌, ◌≤◌, min, Bool, true, false, ◌⊎◌, List, map, length, take, drop, is_some, Some, None, Decides, Option, sym, refl, ap, ◌∙◌, subst, inl, inr, arith}
+use Rattle.std.proofs.Common.{◌≡◌, ℕ, zero, suc, ◌+◌, ◌-◌, ◌*◌, ◌<◌, ◌≤◌, min, Bool, true, false, ◌⊎◌, List, map, length, take, drop, is_some, Some, None, Decides, MatchOption, unwrap_or, Option, sym, refl, ap, ◌∙◌, subst, inl, inr, arith}
 use Rattle.std.proofs.lemmas.List.{length-drop, take_all, drop_all, take-map, drop-map}
 use Rattle.std.proofs.lemmas.Bool.{cases_Bool, cases_lt, cases_eq, false≢true}
 use Rattle.std.proofs.lemmas.Bool.Decides.{not_from_Decides}
@@ -88,3 +88,18 @@ longest_by_lem same tells f limit places head =
     let k = passing 0 limit test in
     let e : 0 + k + 1 ≡ k + 1 = omega arith in
     (r.0, λ s low high. r.1 s (omega arith) (omega arith), λ l x. r.2 l (subst (CertifiedAt f places head) (sym e) x))
+
+-- three values are those that their parts are
+pub three_same : {A B C : Type 0} {q : A × B × C} {a : A} {b : B} {c : C} → q.0 ≡ a → q.1 ≡ b → q.2 ≡ c → q ≡ (a, b, c)
+three_same {q = q} {a = a} {b = b} e f g = ap (λ x. (x, q.1, q.2)) e ∙ ap (λ y. (a, y, q.2)) f ∙ ap (λ z. (a, b, z)) g
+
+from_one : (P : ℕ → Type 0) (n : ℕ) → ((k : ℕ) → 0 ≤ k → k < n → P (k + 1)) → (s : ℕ) → 1 ≤ s → s ≤ n → P s
+from_one P n h s low high = let e : s - 1 + 1 ≡ s = omega arith in subst P e (h (s - 1) (omega arith) (omega arith))
+
+-- the longest run ends before the first number that fails, if there is one below the limit
+pub longest_from_first : {V : Type 0} (f limit : ℕ) (places : List (Option V)) (head : ℕ) (r : Option ℕ)
+    → MatchOption r ((k : ℕ) → 0 ≤ k → k < limit → CertifiedAt f places head (k + 1))
+    (λ i. (0 ≤ i) × (i < limit) × (CertifiedAt f places head (i + 1) → ⊥) × ((k : ℕ) → 0 ≤ k → k < i → CertifiedAt f places head (k + 1)))
+    → Longest f limit places head (unwrap_or r limit)
+longest_from_first f limit places head None h = (omega arith, from_one (CertifiedAt f places head) limit h, λ l. absurd (omega arith))
+longest_from_first f limit places head (Some i) h = (omega (arith, h.1), from_one (CertifiedAt f places head) i h.3, λ l. h.2)

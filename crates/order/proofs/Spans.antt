@@ -3,6 +3,7 @@ use Rattle.std.proofs.Common.{◌≡◌, ℕ, zero, suc, ◌+◌, ◌-◌, ◌<�
 use Rattle.std.proofs.lemmas.List.{append-nil, append_assoc, take-append-drop, take_more}
 use Rattle.std.proofs.lemmas.Bool.{leb-true, le-leb, lt-leb, cond-true, cond-false, true≢false, false≢true}
 use Rattle.std.specs.List.{slice_get}
+use Rattle.std.specs.Option.{SomeIff, option_and_then}
 use Rattle.model.specs.Quorums.{stations}
 use Rattle.order.specs.Columns.{Matrix, column}
 use Rattle.order.specs.Orders.{key, reach, span, each, added, raised, order_after, order, total, after, found}
@@ -176,11 +177,15 @@ added_passed f limit b X o left k e low =
     omega (arith, long, length-span o (b o) (column f limit X o - b o))
 
 -- what is asked for lies before, or in what is added
-pub after_earlier : (earlier : ℕ) (keys : List Key) (k : ℕ) → k < earlier → after earlier keys k ≡ None
+after_earlier : (earlier : ℕ) (keys : List Key) (k : ℕ) → k < earlier → after earlier keys k ≡ None
 after_earlier earlier keys k l = cond-false (leb earlier k) (slice_get keys (k - earlier)) None (lt-leb earlier k l)
 
-pub after_later : (earlier : ℕ) (keys : List Key) (k : ℕ) → earlier ≤ k → after earlier keys k ≡ slice_get keys (k - earlier)
+after_later : (earlier : ℕ) (keys : List Key) (k : ℕ) → earlier ≤ k → after earlier keys k ≡ slice_get keys (k - earlier)
 after_later earlier keys k l = cond-true (leb earlier k) (slice_get keys (k - earlier)) None (le-leb earlier k l)
+
+pub after_sub : (m earlier : ℕ) (r : Option ℕ) (k : ℕ) (keys : List Key) → m ≡ earlier → SomeIff r (m ≤ k) (k - m) → option_and_then (λ p. slice_get keys p) r ≡ after earlier keys k
+after_sub m earlier None k keys e h = sym (after_earlier earlier keys k (omega arith))
+after_sub m earlier (Some x) k keys e (l, d) = let g : x ≡ k - earlier = omega arith in ap (λ p. slice_get keys p) g ∙ sym (after_later earlier keys k (omega arith))
 
 module _ (f limit : ℕ) where
   pub found_later : (Xs : List Matrix) (X : Matrix) (k : ℕ) → length (order f limit Xs) ≤ k → found f limit Xs X k ≡ slice_get (order f limit (Xs ++ X ∷ [])) k

@@ -8,7 +8,7 @@ fn cell(matrix: &[u8], n: u8, k: u8, origin: u8) -> u8
     ensures { result ≡ cell_of n matrix.now k origin }
 {
     let at = usize::from(k) * usize::from(n) + usize::from(origin);
-    if at < matrix.len() { matrix[at] } else { 0 }
+    matrix.get(at).copied().unwrap_or(0)
 }
 
 // Whether row `k` has an entry of `s` or more for an origin.
@@ -22,6 +22,7 @@ fn reaches(matrix: &[u8], n: u8, k: u8, origin: u8, s: u8) -> bool
 pub fn column(watch: Watch, matrix: &[u8], origin: u8) -> u8
     ensures { result ≡ column_of watch.faults watch.limit matrix.now origin }
 {
+    // Kept: the project's form for this search is one over sequences and rows, whose value a labelled break yields.
     let n = watch.stations();
     let quorum = watch.quorum();
     'search: {

@@ -10,35 +10,23 @@ use model::Watch;
 fn entry(row: &[u8], origin: usize, limit: u8) -> u8
     ensures { result ≡ entry_of (read limit row.now) origin }
 {
-    if origin < row.len() {
-        row[origin].min(limit)
-    } else {
-        0
-    }
+    row.get(origin).map_or(0, |entry| (*entry).min(limit))
 }
 
 // Whether no entry of `a` is smaller than that of `b`.
 fn none_smaller(watch: Watch, a: &[u8], b: &[u8]) -> bool
     ensures { result ≡ none_smaller (stations watch.faults) (read watch.limit a.now) (read watch.limit b.now) }
 {
-    for origin in 0..usize::from(watch.stations()) {
-        if entry(a, origin, watch.limit) < entry(b, origin, watch.limit) {
-            return false;
-        }
-    }
-    true
+    let n = usize::from(watch.stations());
+    (0..n).all(|origin| entry(a, origin, watch.limit) >= entry(b, origin, watch.limit))
 }
 
 // Whether some entry of `a` is larger than that of `b`.
 fn some_larger(watch: Watch, a: &[u8], b: &[u8]) -> bool
     ensures { result ≡ some_larger (stations watch.faults) (read watch.limit a.now) (read watch.limit b.now) }
 {
-    for origin in 0..usize::from(watch.stations()) {
-        if entry(a, origin, watch.limit) > entry(b, origin, watch.limit) {
-            return true;
-        }
-    }
-    false
+    let n = usize::from(watch.stations());
+    (0..n).any(|origin| entry(a, origin, watch.limit) > entry(b, origin, watch.limit))
 }
 
 // How the new row stands to the kept one. Only the entries of the watch's stations count; an entry that is not there

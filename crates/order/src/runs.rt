@@ -1,4 +1,4 @@
-ghost use Rattle.std.specs.Prelude.{◌≡◌, ℕ, ◌+◌, Decides};
+ghost use Rattle.std.specs.Prelude.{◌≡◌, ℕ, ◌+◌, Decides, not};
 ghost use Rattle.model.specs.Quorums.{held};
 ghost use Rattle.order.specs.Runs.{CertifiedAt, Longest, part as part_of};
 
@@ -8,6 +8,7 @@ use model::{Watch, Word, certified};
 fn part<W: Word>(places: &[Option<W>], n: u8, before: u8) -> &[Option<W>]
     ensures { result.now ≡ part_of n (before + 1) places.now }
 {
+    // Kept: `chunks(n)` and `nth` go over every part before this one, and ask that n is not 0; the two ends are as plain.
     let start = (usize::from(before) * usize::from(n)).min(places.len());
     let end = (start + usize::from(n)).min(places.len());
     &places[start..end]
@@ -24,10 +25,11 @@ fn next_certified<W: Word>(watch: Watch, places: &[Option<W>], head: usize, befo
 pub fn unbroken<W: Word>(watch: Watch, places: &[Option<W>], head: usize) -> u8
     ensures { Longest watch.faults watch.limit (held W.Word.means places.now) head result }
 {
-    for before in 0..watch.limit {
-        if !next_certified(watch, places, head, before) {
-            return before;
-        }
-    }
-    watch.limit
+    (0..watch.limit)
+        .find(
+            |before|
+                ensures { Decides (not result) (CertifiedAt watch.faults (held W.Word.means places.entry.now) head (before.now + 1)) }
+            { !next_certified(watch, places, head, *before) },
+        )
+        .unwrap_or(watch.limit)
 }

@@ -24,25 +24,23 @@ impl Reach {
     pub fn of(&self, origin: u8) -> u8
         ensures { result ≡ kept self.now origin }
     {
-        let at = usize::from(origin);
-        if at < 16 { self.reaches[at] } else { 0 }
+        self.reaches.get(usize::from(origin)).copied().unwrap_or(0)
     }
 
     // How many operations are ordered so far.
     pub fn ordered(&self, watch: Watch) -> u16
         ensures { result ≡ total (stations watch.faults) (kept self.now) }
     {
-        let mut sum = 0;
-        for origin in 0..watch.stations() {
-            sum += u16::from(self.of(origin));
-        }
-        sum
+        (0..watch.stations())
+            .map(|origin| u16::from(self.of(origin)))
+            .sum()
     }
 
     // What stands at a position of what the matrix adds, if it adds so many.
     fn added_at(&self, watch: Watch, matrix: &[u8], position: u16) -> Option<Key>
         ensures { result ≡ slice_get (added watch.faults watch.limit (kept self.now) matrix.now) position }
     {
+        // Kept: a `try_fold` would carry the loop's invariant as a clause of its closure, and read no plainer.
         let n = watch.stations();
         let mut left = position;
         for origin in 0..n {
@@ -63,10 +61,9 @@ impl Reach {
     fn raise(&mut self, watch: Watch, matrix: &[u8])
         ensures { Raised watch.faults watch.limit matrix.now self.old self.new }
     {
-        for origin in 0..watch.stations() {
-            let at = usize::from(origin);
-            let value = column(watch, matrix, origin);
-            self.reaches[at] = self.reaches[at].max(value);
+        let n = usize::from(watch.stations());
+        for (origin, reach) in self.reaches[..n].iter_mut().enumerate() {
+            *reach = (*reach).max(column(watch, matrix, origin as u8));
         }
     }
 
@@ -77,11 +74,9 @@ impl Reach {
         ensures follows { (Xs : List Matrix) → Reached watch.faults watch.limit Xs self.old → Reached watch.faults watch.limit (Xs ++ matrix.now ∷ []) self.new × (result ≡ found watch.faults watch.limit Xs matrix.now k) }
     {
         let ordered = self.ordered(watch);
-        let answer = if k < ordered {
-            None
-        } else {
-            self.added_at(watch, matrix, k - ordered)
-        };
+        let answer = k
+            .checked_sub(ordered)
+            .and_then(|position| self.added_at(watch, matrix, position));
         self.raise(watch, matrix);
         answer
     }
@@ -97,9 +92,8 @@ pub fn kth(watch: Watch, matrices: &[[u8; 256]], k: u16) -> Option<Key>
 {
     let mut reach = Reach::start();
     for matrix in matrices {
-        let answer = reach.take(watch, matrix, k);
-        if answer.is_some() {
-            return answer;
+        if let Some(key) = reach.take(watch, matrix, k) {
+            return Some(key);
         }
     }
     None

@@ -4,13 +4,8 @@ use model::{Watch, Word, bearable, certified, names, ordered, tally, with, withi
 use order::unbroken;
 use std::test::Fail;
 
+#[derive(PartialEq, Eq, Debug, Drop)]
 struct Letter(u8);
-
-impl Drop for Letter {
-    fn drop(self) {
-        let Letter(_) = self;
-    }
-}
 
 impl Word for Letter {
     ghost Value = { ℕ };
@@ -18,15 +13,12 @@ impl Word for Letter {
     ghost means = { λ l. l.0 };
 
     fn same(&self, other: &Letter) -> bool {
-        self.0 == other.0
+        self == other
     }
 }
 
 fn spelt(found: Option<&Letter>) -> u8 {
-    match found {
-        Some(word) => word.0,
-        None => 0,
-    }
+    found.map_or(0, |word| word.0)
 }
 
 const U: Option<Letter> = Some(Letter(7));

@@ -2,7 +2,7 @@
 #![tactic(auto)]
 
 use gates::MOST_GATES;
-use lines::split_line;
+use lines::Lines;
 use sheet::Sheet;
 use std::io;
 use std::io::Read;
@@ -10,20 +10,13 @@ use std::io::Read;
 fn main(rt: HostRuntime) -> io::Result<()> {
     let mut text = Vec::new(rt.alloc());
     rt.stdin().read_to_end(&mut text)?;
-    let mut rest = text.as_slice();
-    let mut number = 0u64;
     let mut sheet = Sheet::new();
-    while !rest.is_empty() {
-        let (line, more) = split_line(rest);
-        number = number.saturating_add(1);
+    for (number, line) in (1..=u64::MAX).zip(Lines::of(text.as_slice())) {
         let reply = sheet.line(line);
         println!(rt; "{number}: {reply}")?;
-        rest = more;
     }
-    for gate in 0..MOST_GATES as u8 {
-        if let Some(standing) = sheet.standing(gate) {
-            println!(rt; "{standing}")?;
-        }
+    for standing in (0..MOST_GATES as u8).filter_map(|gate| sheet.standing(gate)) {
+        println!(rt; "{standing}")?;
     }
     Ok(())
 }

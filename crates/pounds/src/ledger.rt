@@ -3,7 +3,7 @@ ghost use Rattle.std.specs.Prelude.{◌≤◌};
 mod moving;
 
 // A pound: the water that it holds, and the most that it can hold, in cubic metres.
-#[derive(Clone, Copy)]
+#[derive(Clone, Copy, PartialEq, Eq, Debug)]
 pub struct Pound {
     pub volume: u32,
     pub capacity: u32,
@@ -11,7 +11,7 @@ pub struct Pound {
 }
 
 // What a ledger answers to a transfer; the values are the codes.
-#[derive(Clone, Copy)]
+#[derive(Clone, Copy, PartialEq, Eq, Debug)]
 pub enum PoundCode {
     // The volume moves from the source to the target.
     Moved = 0,
@@ -35,6 +35,7 @@ struct Booking {
 pub const MOST_POUNDS: usize = 32;
 
 // The pounds of a canal.
+// Kept: an array with the number of fitted pounds beside it, since a ledger is a plain value of fixed size, with no heap.
 #[derive(Clone, Copy)]
 pub struct PoundLedger {
     pounds: [Pound; MOST_POUNDS],

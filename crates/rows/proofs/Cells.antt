@@ -1,11 +1,11 @@
-use Rattle.std.proofs.Common.{◌≡◌, ℕ, zero, suc, ◌+◌, ◌-◌, ◌*◌, ◌<◌, ◌≤◌, List, [], ◌∷◌, ◌++◌, length, get_or, take, drop, set, replicate, ap, ◌∙◌, ⊎_elim, add-mul, arith, rules}
+use Rattle.std.proofs.Common.{◌≡◌, ℕ, zero, suc, ◌+◌, ◌-◌, ◌*◌, ◌<◌, ◌≤◌, min, List, [], ◌∷◌, ◌++◌, length, take, drop, replicate, ap, ◌∙◌, ⊎_elim, add-mul, arith, rules}
 use Rattle.rows.proofs.Repack.{field_below}
 use Rattle.rows.specs.Bits.{Small, field_of, repacked}
 use Rattle.rows.specs.Caps.{capped_at}
 use Rattle.rows.specs.Values.{placed, row_in}
 use Rattle.std.proofs.lemmas.Nat.{mul-le, mul-lt}
 use Rattle.std.proofs.lemmas.List.FromFn.{length-map-range_with_len, get_or-map-range_with_len}
-use Rattle.std.proofs.lemmas.List.{drop_all, drop-take, get_or-drop, get_or_past, get_or-take, length-append, length-drop, length-take, places, same_lists, take_all, take-take}
+use Rattle.std.proofs.lemmas.List.{drop-take, get_or-drop, get_or_past, length-append, length-drop, length-replicate, length-take, places, same_lists, take-take}
 use Rattle.std.proofs.lemmas.Bool.{cases_lt, cases_order}
 use borrow.Rule.Slice.PartMut.{put_mid}
 
@@ -24,13 +24,6 @@ small_take (suc n) (x ∷ xs) a (suc k) = small_take n xs (λ j. a (suc j)) k
 pub small_drop : (n : ℕ) (xs : List ℕ) → Small xs → Small (drop n xs)
 small_drop n xs a k = rw get_or-drop (a (n + k))
 
-pub small_set : (xs : List ℕ) (i v : ℕ) → v < 64 → Small xs → Small (set xs i v)
-small_set [] i v h a k = omega arith
-small_set (x ∷ xs) zero v h a zero = h
-small_set (x ∷ xs) zero v h a (suc k) = a (suc k)
-small_set (x ∷ xs) (suc i) v h a zero = a 0
-small_set (x ∷ xs) (suc i) v h a (suc k) = small_set xs i v h (λ j. a (suc j)) k
-
 pub small_zeros : (n : ℕ) → Small (replicate n 0)
 small_zeros zero k = omega arith
 small_zeros (suc n) zero = omega arith
@@ -42,10 +35,6 @@ small_entries bytes n k =
     (λ (h : k < n). rw (get_or-map-range_with_len (λ k. field_of 8 bytes (6 * k) 6) 0 n k k 0 h (omega arith)) (field_below 8 bytes (6 * k) 6))
     (λ (h : n ≤ k). rw (get_or_past (repacked 8 6 n bytes) k 0 (rw length-map-range_with_len h)) (omega arith))
     (cases_lt k n)
-
--- Past the front that is taken there is nothing.
-pub get_d_front_past : (n : ℕ) (xs : List ℕ) (k : ℕ) → n ≤ k → get_or (take n xs) k 0 ≡ 0
-get_d_front_past n xs k h = get_or_past (take n xs) k 0 (simp length-take (omega arith))
 
 -- A square of side s, and the rows in it.
 pub square_fits : (s : ℕ) → s ≤ 16 → s * s ≤ 256
@@ -64,17 +53,6 @@ side_of_square a b e =
     (λ (h : b < a). absurd (omega (arith, mul-lt b b a a h h))) r)
     (cases_order a b)
 
-pub cell_at : (s i j : ℕ) (xs : List ℕ) → i < s → j < s → get_or (row_in s (take (s * s) xs) i) j 0 ≡ get_or xs (i * s + j) 0
-cell_at s i j xs hi hj =
-    let f = row_fits i s hi in
-    get_or-take s (drop (i * s) (take (s * s) xs)) j 0 hj ∙ get_or-drop (i * s) (take (s * s) xs) j 0 ∙ get_or-take (s * s) xs (i * s + j) 0 (omega arith)
-
-pub no_row : (s i : ℕ) (xs : List ℕ) → s ≤ i → row_in s (take (s * s) xs) i ≡ []
-no_row s i xs h =
-    let m : s * s ≤ i * s = mul-le s s i s h (omega arith) in
-    let d : drop (i * s) (take (s * s) xs) ≡ [] = drop_all (i * s) (take (s * s) xs) (simp length-take (omega arith)) in
-    rw d (take_all s [] (omega arith))
-
 pub row_whole : (s i : ℕ) (xs : List ℕ) → i < s → row_in s (take (s * s) xs) i ≡ take s (drop (i * s) xs)
 row_whole s i xs h =
     let f = row_fits i s h in
@@ -89,9 +67,14 @@ front_placed n a k xs ys h l e = same_lists _ _ (search (rules, places)) (λ k d
 pub small_same : (xs ys : List ℕ) → xs ≡ ys → Small ys → Small xs
 small_same xs ys e a k = rw e (a k)
 
--- A part that is written over leaves the length.
-pub length_over : (a k : ℕ) (xs ys : List ℕ) → a + k ≤ length xs → length ys ≡ k → length (put_mid a k xs ys) ≡ length xs
-length_over a k xs ys h e = simp (length-append, length-take, length-drop) (omega arith)
+-- Zeros, with a front that is written over.
+pub length_front : (n most : ℕ) (ys : List ℕ) → length ys ≡ length {A = ℕ} (take n (replicate most 0)) → length {A = ℕ} (ys ++ drop n (replicate most 0)) ≡ most
+length_front n most ys e =
+    let l : length ys ≡ min n most = e ∙ simp (length-take, length-replicate) in
+    simp (length-append, length-drop, length-replicate) (omega arith)
+
+pub small_front : (n most : ℕ) (ys : List ℕ) → Small ys → Small (ys ++ drop n (replicate most 0))
+small_front n most ys a = small_append ys _ a (small_drop n (replicate most 0) (small_zeros most))
 
 pub small_capped : (limit : ℕ) (xs : List ℕ) → Small xs → Small (capped_at limit xs)
 small_capped limit [] a k = omega arith

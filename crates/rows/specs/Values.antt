@@ -1,14 +1,21 @@
 use Rattle.std.specs.Prelude.{ℕ, ◌+◌, ◌*◌, List, ◌++◌, length, take, drop}
+use Rattle.rows.specs.declared.owned.Entries.{Entries}
 use Rattle.rows.specs.declared.owned.Matrix.{Matrix}
-use Rattle.rows.specs.declared.owned.Row.{Row}
+
+-- Entries mean the list of them.
+abbrev pub entries_of : {most : ℕ} → Entries most → List ℕ
+entries_of e = take e.count e.cells
+
+abbrev pub Row : Type 0
+Row = Entries 16
 
 -- A row means its entries.
 abbrev pub row_of : Row → List ℕ
-row_of r = take r.side r.cells
+row_of r = take r.count r.cells
 
 -- A matrix means its entries, row by row. Their number is the square of the side.
 abbrev pub matrix_of : Matrix → List ℕ
-matrix_of m = take (m.side * m.side) m.cells
+matrix_of m = take (m.side * m.side) m.entries.cells
 
 -- Row i of a matrix of this side; none from the side on.
 abbrev pub row_in : ℕ → List ℕ → ℕ → List ℕ

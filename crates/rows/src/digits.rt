@@ -1,12 +1,12 @@
 ghost use Rattle.std.specs.Prelude.{◌≡◌, ℕ, ◌+◌, ◌-◌, ◌*◌, ◌/◌, ◌%◌, ◌^◌, ◌<◌, ◌≤◌, min, length, slice_index};
-ghost use Rattle.rows.specs.Bits.{field, field_of, room, packed, entries, Small};
+ghost use Rattle.rows.specs.Bits.{field, field_of, room as room_of, packed, entries, Small};
 ghost use Rattle.rows.specs.Caps.{capped_at};
 
 // The digit at this place, and 0 past the end.
 fn at(digits: &[u8], i: usize) -> u8
     ensures { result ≡ slice_index digits.now i }
 {
-    if i < digits.len() { digits[i] } else { 0 }
+    digits.get(i).copied().unwrap_or(0)
 }
 
 // w bits from bit `skip` of two digits of a bits each.
@@ -47,6 +47,7 @@ pub fn entry(part: &[u8], k: usize) -> u8
 pub fn word(bytes: &[u8], from: u8) -> u64
     ensures { result ≡ field bytes.now (8 * from) 64 }
 {
+    // Kept: a fold is no plainer, since no invariant bounds what its step has so far.
     let mut all = 0;
     for k in 0..8 {
         all = all * 256 + at(bytes, from as usize + k) as u64;
@@ -54,10 +55,17 @@ pub fn word(bytes: &[u8], from: u8) -> u64
     all
 }
 
+// How many bytes hold so many entries: three for each four of them.
+pub fn room(entries: usize) -> usize
+    ensures { result ≡ room_of entries }
+{
+    entries - entries / 4
+}
+
 // Byte j of the part that holds these entries.
 fn byte(entries: &[u8], j: usize) -> u8
     requires small { Small entries.now }
-    requires few { j < 2 ^ 32 }
+    requires few { j < 2 ^ 63 }
     ensures { result ≡ field_of 6 entries.now (8 * j) 8 }
 {
     let i = j / 3 * 4 + j % 3 * 8 / 6;
@@ -69,19 +77,19 @@ fn byte(entries: &[u8], j: usize) -> u8
 pub(crate) fn unpack(part: &[u8], to: &mut [u8])
     ensures { to.new ≡ entries part.now (length to.old) }
 {
-    for k in 0..to.len() {
-        to[k] = entry(part, k);
+    for (k, x) in to.iter_mut().enumerate() {
+        *x = entry(part, k);
     }
 }
 
 // Fills `to` with the bytes that hold these entries.
 pub(crate) fn pack(entries: &[u8], to: &mut [u8])
     requires small { Small entries.now }
-    requires few { (length to.old ≡ room (length entries.now)) × (length to.old < 2 ^ 32) }
+    requires whole { length to.old ≡ room_of (length entries.now) }
     ensures { to.new ≡ packed (length entries.now) entries.now }
 {
-    for j in 0..to.len() {
-        to[j] = byte(entries, j);
+    for (j, x) in to.iter_mut().enumerate() {
+        *x = byte(entries, j);
     }
 }
 

@@ -2,9 +2,9 @@
 #![tactic(auto)]
 
 mod digits;
+mod entries;
 mod matrix;
 mod owned;
-mod row;
 
-pub use digits::{bits, entry, word};
-pub use owned::{Matrix, Row};
+pub use digits::{bits, entry, room, word};
+pub use owned::{Entries, Matrix, Row};

@@ -3,19 +3,20 @@ ghost use Rattle.rows.specs.Bits.{entries, packed, room};
 ghost use Rattle.rows.specs.Caps.{capped_at};
 ghost use Rattle.rows.specs.Values.{matrix_of, placed, row_in, row_of};
 
-use crate::digits::{cap, pack, unpack};
-use crate::owned::{Matrix, Row};
+use crate::owned::{Entries, Matrix, Row};
 use model::Word;
 
+#[tactic(auto, using(crate::proofs::Cells::square_fits, crate::proofs::Cells::row_fits))]
 impl Matrix {
     // The zero matrix of this side, at most 16.
     pub fn zero(side: usize) -> Matrix
         ensures side { result.side ≡ min side 16 }
         ensures means { matrix_of result ≡ replicate (min side 16 * min side 16) 0 }
     {
+        let side = side.min(16);
         Matrix {
-            side: side.min(16) as u8,
-            cells: [0; 256],
+            side: side as u8,
+            entries: Entries::zero(side * side),
         }
     }
 
@@ -25,7 +26,7 @@ impl Matrix {
     {
         let side = self.side as usize;
         if i < side && j < side {
-            self.cells[i * side + j]
+            self.entries.get(i * side + j)
         } else {
             0
         }
@@ -36,26 +37,24 @@ impl Matrix {
         ensures { row_of result ≡ row_in self.now.side (matrix_of self.now) i }
     {
         let side = self.side as usize;
-        let mut cells = [0; 16];
         if i >= side {
-            return Row { side: 0, cells };
+            return Row::zero(0);
         }
-        cells[0..side].copy_from_slice(&self.cells[i * side..i * side + side]);
-        Row {
-            side: self.side,
-            cells,
-        }
+        let mut cells = [0; 16];
+        cells[..side].copy_from_slice(&self.entries.cells[i * side..(i + 1) * side]);
+        Row { count: side, cells }
     }
 
     // Puts a row of the matrix's side into the place of row i, if there is such a row.
+    // Kept: yes or no, as in `Entries::set`.
     pub fn put(&mut self, i: usize, row: &Row) -> bool
-        ensures answer { result ≡ (nat_lt i self.old.side && row.now.side == self.old.side) }
+        ensures answer { result ≡ (nat_lt i self.old.side && row.now.count == self.old.side) }
         ensures side { self.new.side ≡ self.old.side }
         ensures means { matrix_of self.new ≡ (if result then placed (matrix_of self.old) (i * self.old.side) (row_of row.now) else matrix_of self.old) }
     {
         let side = self.side as usize;
-        if i < side && row.side == self.side {
-            self.cells[i * side..i * side + side].copy_from_slice(&row.cells[0..side]);
+        if i < side && row.count == side {
+            self.entries.cells[i * side..(i + 1) * side].copy_from_slice(row.as_slice());
             return true;
         }
         false
@@ -66,41 +65,31 @@ impl Matrix {
         ensures side { result.side ≡ min side 16 }
         ensures means { matrix_of result ≡ entries part.now (min side 16 * min side 16) }
     {
-        let n = side.min(16);
-        let mut cells = [0; 256];
-        unpack(part, &mut cells[0..n * n]);
+        let side = side.min(16);
         Matrix {
-            side: n as u8,
-            cells,
+            side: side as u8,
+            entries: Entries::unpack(side * side, part),
         }
     }
 
     // Writes the bytes that hold the entries into the front of `to`, if there is room for them.
+    // Kept: yes or no, as in `Entries::set`.
     pub fn pack(&self, to: &mut [u8]) -> bool
         ensures answer { result ≡ nat_le (room (self.now.side * self.now.side)) (length to.old) }
         ensures means { to.new ≡ (if result then packed (self.now.side * self.now.side) (matrix_of self.now) ++ drop (room (self.now.side * self.now.side)) to.old else to.old) }
     {
-        let n = self.side as usize;
-        let bytes = (6 * (n * n) + 7) / 8;
-        if to.len() < bytes {
-            return false;
-        }
-        pack(&self.cells[0..n * n], &mut to[0..bytes]);
-        true
+        self.entries.pack(to)
     }
 
     // Makes entry j of row i this value, if there is such an entry and the value is below 64.
+    // Kept: yes or no, as in `Entries::set`.
     pub fn set(&mut self, i: usize, j: usize, value: u8) -> bool
         ensures answer { result ≡ (nat_lt i self.old.side && (nat_lt j self.old.side && nat_lt value 64)) }
         ensures side { self.new.side ≡ self.old.side }
         ensures means { matrix_of self.new ≡ (if result then changed (matrix_of self.old) (i * self.old.side + j) value else matrix_of self.old) }
     {
         let side = self.side as usize;
-        if i < side && j < side && value < 64 {
-            self.cells[i * side + j] = value;
-            return true;
-        }
-        false
+        i < side && j < side && self.entries.set(i * side + j, value)
     }
 
     // The same matrix with each entry above the limit read as the limit.
@@ -108,11 +97,9 @@ impl Matrix {
         ensures side { result.side ≡ self.now.side }
         ensures means { matrix_of result ≡ capped_at limit (matrix_of self.now) }
     {
-        let mut cells = self.cells;
-        cap(&mut cells, limit);
         Matrix {
             side: self.side,
-            cells,
+            entries: self.entries.capped(limit),
         }
     }
 }
@@ -124,7 +111,6 @@ impl Word for Matrix {
     ghost means = { matrix_of };
 
     fn same(&self, other: &Matrix) -> bool {
-        let cells = self.side as usize * self.side as usize;
-        self.side == other.side && self.cells[0..cells] == other.cells[0..cells]
+        self.entries.same(&other.entries)
     }
 }

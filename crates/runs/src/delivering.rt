@@ -23,7 +23,7 @@ impl Open {
             change,
             first,
             second,
-        } = decide(self.numbers, self.end, t, station, place)?;
+        } = decide(&self.on(t), station, place)?;
         let middle = post(t.wire, self.end, first);
         let end = post(t.wire, middle, second);
         settle(t, station as usize, change);

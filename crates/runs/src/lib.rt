@@ -6,6 +6,7 @@ mod closing;
 mod delivering;
 mod life;
 mod opening;
+mod placing;
 mod sent;
 mod settling;
 mod showing;

@@ -6,23 +6,24 @@ ghost use Rattle.std.specs.Prelude.{◌≡◌};
 
 use crate::life::{Declined, Fitted, Open};
 use model::{Fault, Machine};
-use tables::{Numbers, Tables};
+use tables::{Numbers, Setup, Tables};
+
+// A run that could not be opened is passed on as the reason alone.
+impl From<Declined> for Fault {
+    ghost from_gives = { λ declined fault. fault ≡ declined.fault };
+
+    fn from(declined: Declined) -> Fault {
+        declined.fault
+    }
+}
 
 impl Fitted {
     // Checks the numbers of a run and the tables that it is to have.
-    pub fn new<M: Machine>(
-        f: u32,
-        length: u32,
-        leader: u32,
-        faulty: u32,
-        t: &Tables<'_, M>,
-    ) -> Result<Fitted, Fault>
-        ensures { seen_as (λ x. plan_of x.numbers) result ≡ fitted f length leader faulty (lengths_of t.now) }
+    pub fn new<M: Machine>(setup: Setup, t: &Tables<'_, M>) -> Result<Fitted, Fault>
+        ensures { seen_as (λ x. plan_of x.numbers) result ≡ fitted setup.faults setup.length setup.leader setup.faulty (lengths_of t.now) }
     {
-        match Numbers::fit(f, length, leader, faulty, t) {
-            Ok(numbers) => Ok(Fitted { numbers }),
-            Err(fault) => Err(fault),
-        }
+        let numbers = Numbers::fit(setup, t)?;
+        Ok(Fitted { numbers })
     }
 
     // Opens the run: each station starts from a copy of this machine.

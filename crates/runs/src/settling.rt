@@ -5,33 +5,18 @@ ghost use Rattle.runs.specs.Perform.{changed, posted};
 ghost use Rattle.tables.specs.Contents.{contents, frame_of};
 ghost use Rattle.tables.specs.Plans.{lengths_of};
 
+use crate::placing::put;
 use delivery::Change;
 use model::{Machine, with};
-use rows::Row;
 use tables::{Slot, Tables};
-
-// The place takes this word.
-fn fill<W: Drop>(places: &mut [Option<W>], at: usize, word: W)
-    requires { at < length places.old }
-    ensures { places.new ≡ slice_set places.old at (Some word) }
-{
-    places[at] = Some(word);
-}
-
-// The row is kept in this place.
-fn keep(rows: &mut [Row], at: usize, row: Row)
-    requires { at < length rows.old }
-    ensures { rows.new ≡ slice_set rows.old at row }
-{
-    rows[at] = row;
-}
 
 // The speaker enters the station's accusation set.
 fn accuse(sets: &mut [u16], station: usize, speaker: u8)
     requires { station < length sets.old }
     ensures { sets.new ≡ slice_set sets.old station (joined (slice_index sets.old station) speaker) }
 {
-    sets[station] = with(sets[station], speaker as usize);
+    let set = with(sets[station], speaker as usize);
+    put(sets, station, set);
 }
 
 // Makes the change of a delivery at this station.
@@ -41,10 +26,10 @@ pub(crate) fn settle<M: Machine>(t: &mut Tables<'_, M>, station: usize, change: 
 {
     match change {
         Change::Nothing => {}
-        Change::Place { at, word } => fill(t.words, at, word),
-        Change::First { at, matrix } => fill(t.votes, at, matrix),
-        Change::Second { at, matrix } => fill(t.commits, at, matrix),
-        Change::Keep { at, row } => keep(t.kept, at, row),
+        Change::Place { at, word } => put(t.words, at, Some(word)),
+        Change::First { at, matrix } => put(t.votes, at, Some(matrix)),
+        Change::Second { at, matrix } => put(t.commits, at, Some(matrix)),
+        Change::Keep { at, row } => put(t.kept, at, row),
         Change::Accuse { speaker } => accuse(t.accused, station, speaker),
     }
 }
@@ -58,7 +43,7 @@ pub(crate) fn post(wire: &mut [Slot], end: u16, frame: Option<Slot>) -> u16
 {
     match frame {
         Some(slot) => {
-            wire[end as usize] = slot;
+            put(wire, end as usize, slot);
             end + 1
         }
         None => end,

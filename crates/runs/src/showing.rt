@@ -6,7 +6,7 @@ ghost use Rattle.std.specs.Prelude.{◌≡◌, [], length, slice_index_or};
 use crate::life::Open;
 use model::{Fault, Machine, Reason};
 use tables::Tables;
-use wire::show;
+use wire::Wire;
 
 impl Open {
     // Writes the frame at a place of the wire into the front of the buffer, and answers its length.
@@ -21,8 +21,13 @@ impl Open {
     {
         let Open { numbers, end, .. } = self;
         if numbers.short(t) {
-            return Err(Fault::new(Reason::ShortTable, 0));
+            return Err(Reason::ShortTable.into());
         }
-        show::<M::Op>(*numbers, *end, t.wire, place, to)
+        let wire = Wire {
+            numbers: *numbers,
+            end: *end,
+            slots: t.wire,
+        };
+        wire.show::<M::Op>(place, to)
     }
 }

@@ -4,7 +4,7 @@ use rows::{Matrix, Row};
 use runs::{Fitted, Open};
 use std::alloc::{AllocError, Global};
 use std::test::Fail;
-use tables::{Counts, Entry, Slot, Tables};
+use tables::{Counts, Entry, Setup, Slot, Tables};
 
 // The tables of a run, owned.
 #[derive(Drop)]
@@ -34,31 +34,11 @@ pub struct Sizes {
     pub accused: u32,
 }
 
-// A list of so many copies.
-fn copies<T: Copy>(heap: Global, n: u32, value: T) -> Result<Vec<T>, AllocError> {
-    let mut items = Vec::new(heap);
-    for _ in 0..n {
-        items.push(value)?;
-    }
-    Ok(items)
-}
-
-// So many places, all empty.
-fn places<T: Drop>(heap: Global, n: u32) -> Result<Vec<Option<T>>, AllocError> {
-    let mut items = Vec::new(heap);
-    for _ in 0..n {
-        items.push(None)?;
-    }
-    Ok(items)
-}
-
-// So many copies of a machine.
-fn machines<M: Machine + Drop>(heap: Global, n: u32, start: &M) -> Result<Vec<M>, AllocError> {
-    let mut items = Vec::new(heap);
-    for _ in 0..n {
-        items.push(start.copy())?;
-    }
-    Ok(items)
+// A list of so many items, each what the call gives.
+fn list<T: Drop, F: Fn() -> T>(heap: Global, n: u32, item: F) -> Result<Vec<T>, AllocError>
+    requires { F.IsAlwaysCallable item }
+{
+    (0..n).map(|_| item()).collect(heap)
 }
 
 impl<M: Machine + Drop> Bench<M> {
@@ -73,15 +53,15 @@ impl<M: Machine + Drop> Bench<M> {
             executed: 9,
         };
         Ok(Bench {
-            wire: copies(heap, n.wire, empty)?,
-            words: places(heap, n.words)?,
-            votes: places(heap, n.votes)?,
-            commits: places(heap, n.commits)?,
-            kept: copies(heap, n.kept, Row::zero(2))?,
-            executed: places(heap, n.executed)?,
-            machines: machines(heap, n.machines, start)?,
-            counts: copies(heap, n.counts, used)?,
-            accused: copies(heap, n.accused, 7)?,
+            wire: list(heap, n.wire, || empty)?,
+            words: list(heap, n.words, || None)?,
+            votes: list(heap, n.votes, || None)?,
+            commits: list(heap, n.commits, || None)?,
+            kept: list(heap, n.kept, || Row::zero(2))?,
+            executed: list(heap, n.executed, || None)?,
+            machines: list(heap, n.machines, || start.copy())?,
+            counts: list(heap, n.counts, || used)?,
+            accused: list(heap, n.accused, || 7)?,
         })
     }
 
@@ -142,12 +122,7 @@ impl Sizes {
 
 // What lies behind the first n items.
 fn rest<T>(items: &[T], n: u32) -> &[T] {
-    let from = n as usize;
-    if from <= items.len() {
-        &items[from..]
-    } else {
-        items
-    }
+    items.get(n as usize..).unwrap_or(items)
 }
 
 impl<M: Machine + Drop> Bench<M> {
@@ -200,6 +175,7 @@ pub fn word_place(watch: Watch, station: u8, origin: u8, sequence: u8) -> u32 {
 
 // A row of so many entries, all of this value.
 pub fn even(side: u8, value: u8) -> Row {
+    // Kept: an entry is set by its place, and the row has no iterator that writes.
     let mut row = Row::zero(side as usize);
     for k in 0..side as usize {
         row.set(k, value);
@@ -209,8 +185,8 @@ pub fn even(side: u8, value: u8) -> Row {
 
 // Makes the item at this place this one, if there is such a place.
 pub fn put<T: Copy>(items: &mut [T], at: usize, value: T) {
-    if at < items.len() {
-        items[at] = value;
+    if let Some(item) = items.get_mut(at) {
+        *item = value;
     }
 }
 
@@ -225,6 +201,7 @@ fn put_word<O: Operation + Drop>(words: &mut [Option<O>], at: usize, u: &O) {
 
 // From this place on, the speakers of the set hold the operation.
 pub fn hold<O: Operation + Drop>(words: &mut [Option<O>], from: u32, speakers: u16, u: &O) {
+    // Kept: a `for` with an `if`, since of a filtered range the check does not know how large its numbers are.
     for j in 0..16 {
         if names(speakers, j) {
             put_word(words, from as usize + j, u);
@@ -236,17 +213,27 @@ pub fn hold<O: Operation + Drop>(words: &mut [Option<O>], from: u32, speakers: u
 pub fn holding(bytes: &[u8]) -> Slot {
     let mut all = [0xEE; 194];
     let len = bytes.len().min(194);
-    all[0..len].copy_from_slice(&bytes[0..len]);
+    all[..len].copy_from_slice(&bytes[..len]);
     Slot {
         bytes: all,
         len: len as u8,
     }
 }
 
+// The setup with these numbers: f, the watch length, the leader and the set of the faulty stations.
+fn setup(numbers: (u32, u32, u32, u32)) -> Setup {
+    let (faults, length, leader, faulty) = numbers;
+    Setup {
+        faults,
+        length,
+        leader,
+        faulty,
+    }
+}
+
 // The number of the refusal that fitting answers, or 0.
 fn fit<M: Machine>(t: &Tables<'_, M>, numbers: (u32, u32, u32, u32)) -> u8 {
-    let (f, length, leader, faulty) = numbers;
-    match Fitted::new(f, length, leader, faulty, t) {
+    match Fitted::new(setup(numbers), t) {
         Ok(_) => 0,
         Err(e) => e.reason.number(),
     }
@@ -261,12 +248,10 @@ pub fn fits<M: Machine + Drop>(
 ) -> Result<usize, AllocError> {
     let mut bench = Bench::new(heap, n, start)?;
     let t = bench.lend();
-    for (i, (numbers, wanted)) in cases.iter().enumerate() {
-        if fit(&t, *numbers) != *wanted {
-            return Ok(i);
-        }
-    }
-    Ok(cases.len())
+    let first = cases
+        .iter()
+        .position(|(numbers, wanted)| fit(&t, *numbers) != *wanted);
+    Ok(first.unwrap_or(cases.len()))
 }
 
 // The fitted run with these numbers: f, the watch length, the leader and the set of the faulty stations.
@@ -274,11 +259,7 @@ pub fn fitted<M: Machine>(
     numbers: (u32, u32, u32, u32),
     t: &Tables<'_, M>,
 ) -> Result<Fitted, Fail> {
-    let (f, length, leader, faulty) = numbers;
-    match Fitted::new(f, length, leader, faulty, t) {
-        Ok(fitted) => Ok(fitted),
-        Err(_) => Err(Fail::new("not fitted")),
-    }
+    Fitted::new(setup(numbers), t).map_err(|_| Fail::new("not fitted"))
 }
 
 // The same run, opened.
@@ -288,8 +269,5 @@ pub fn opened<M: Machine + Drop>(
     start: &M,
 ) -> Result<Open, Fail> {
     let run = fitted(numbers, t)?;
-    match run.open(t, start) {
-        Ok(run) => Ok(run),
-        Err(_) => Err(Fail::new("not opened")),
-    }
+    run.open(t, start).map_err(|_| Fail::new("not opened"))
 }

@@ -161,12 +161,7 @@ fn goes<M: Machine>(
 ) -> bool {
     let before = mark(t);
     let got = stepped(run, t, us, step);
-    let may_change = match got {
-        Answer::Sent(_, _) => true,
-        Answer::At(_) => true,
-        Answer::Done => true,
-        _ => false,
-    };
+    let may_change = matches!(&got, Answer::Sent(_, _) | Answer::At(_) | Answer::Done);
     got == wanted && (may_change || mark(t) == before)
 }
 

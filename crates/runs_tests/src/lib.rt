@@ -1,23 +1,14 @@
-// Tests of runs.
+// Tests of runs, and what tests of runs need: tables that are owned, scripts of calls, and marks of what tables hold.
 #![tactic(auto)]
 
-#[cfg(test)]
-mod bench;
-#[cfg(test)]
-mod calls;
+pub mod bench;
+pub mod calls;
 #[cfg(test)]
 mod fitting;
 #[cfg(test)]
 mod larger;
 #[cfg(test)]
 mod life;
-#[cfg(test)]
-mod marks;
+pub mod marks;
 #[cfg(test)]
 mod opening;
-#[cfg(test)]
-mod sends;
-#[cfg(test)]
-mod shows;
-#[cfg(test)]
-mod speeches;

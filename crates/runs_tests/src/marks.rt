@@ -35,7 +35,7 @@ pub fn of_words<O: Operation>(mut h: u64, words: &[Option<O>]) -> u64 {
 pub fn of_matrices(mut h: u64, matrices: &[Option<Matrix>]) -> u64 {
     for matrix in matrices {
         h = match matrix {
-            Some(m) => mix(of_bytes(h, &m.cells), m.side as u64),
+            Some(m) => mix(of_bytes(h, &m.entries.cells), m.side as u64),
             None => mix(h, 99),
         };
     }
@@ -44,7 +44,7 @@ pub fn of_matrices(mut h: u64, matrices: &[Option<Matrix>]) -> u64 {
 
 pub fn of_rows(mut h: u64, rows: &[Row]) -> u64 {
     for row in rows {
-        h = mix(of_bytes(h, &row.cells), row.side as u64);
+        h = mix(of_bytes(h, &row.cells), row.count as u64);
     }
     h
 }

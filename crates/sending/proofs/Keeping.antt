@@ -2,7 +2,7 @@
 use Rattle.std.proofs.Common.{◌≡◌, ℕ, zero, suc, ◌+◌, ◌*◌, ◌/◌, ◌%◌, ◌<◌, min, List, [], map, length, get_or, sym, ap, ◌∙◌, subst, div-lt_iff_lt-mul, arith}
 use Rattle.model.specs.Quorums.{stations}
 use Rattle.rows.specs.Values.{row_of}
-use Rattle.rows.specs.declared.owned.Row.{Row}
+use Rattle.rows.specs.Values.{Row}
 use Rattle.sending.specs.Sends.{kept_entry}
 use Rattle.std.proofs.lemmas.Nat.{div-add-mod', mod_below, mul-add-lt}
 use Rattle.std.proofs.lemmas.List.{get_or-map}

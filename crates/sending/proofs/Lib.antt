@@ -1,4 +1,4 @@
 pub mod Decided
 pub mod Running
-pub mod Filling
+pub mod Gathered
 pub mod Keeping

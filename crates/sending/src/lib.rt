@@ -1,6 +1,7 @@
 // What a station is to send: readers of the tables that refuse, or make the frame.
 #![tactic(auto)]
 
+mod gathering;
 mod numbered;
 mod proposing;
 mod speaking;

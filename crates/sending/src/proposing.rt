@@ -9,11 +9,12 @@ ghost use Rattle.tables.specs.Contents.{contents, frame_of};
 ghost use Rattle.tables.specs.Plans.{lengths_of, plan_of};
 ghost use Rattle.tables.specs.Refusing.{seen_as};
 
+use crate::gathering::gathered;
 use crate::numbered::Numbered;
 use frames::Message;
-use model::{Fault, Machine, Reason, Watch};
+use model::{Fault, Machine, Reason};
 use rows::{Matrix, Row};
-use tables::{Numbers, Slot, Tables};
+use tables::{Numbers, Slot, Snapshot, Station};
 use wire::slot;
 
 // Entry o of the row that station i keeps of station j, as it is read.
@@ -34,26 +35,21 @@ fn kept_rows(numbers: Numbers, table: &[Row], i: usize) -> Matrix
     ensures { matrix_of result ≡ kept_rows (plan_of numbers) (map row_of table.now) i }
 {
     let n = numbers.watch.stations() as usize;
-    let mut matrix = Matrix::zero(n);
-    for k in 0..n * n {
-        let value = kept_entry(numbers, table, i, k / n, k % n);
-        matrix.set(k / n, k % n, value);
+    Matrix {
+        side: n as u8,
+        entries: gathered(n * n, |k| kept_entry(numbers, table, i, k / n, k % n)),
     }
-    matrix
 }
 
-// The frame of a proposal.
-fn proposal(watch: Watch, sender: u8, sequence: u8, matrix: Matrix) -> Slot
-    requires sender { sender < stations watch.faults }
-    requires sequence { (1 ≤ sequence) × (sequence ≤ watch.limit) }
-    requires side { length (matrix_of matrix) ≡ stations watch.faults * stations watch.faults }
-    ensures { frame_of result ≡ frame (said_proposal sender watch.faults sequence (matrix_of matrix)) }
+// The frame of the station's proposal.
+// Kept: the range of the sequence as a `requires` of its own, since no type of a number knows the length of its watch.
+fn proposal<M: Machine>(at: &Station<'_, '_, M>, sequence: u8, matrix: Matrix) -> Slot
+    requires sequence { (1 ≤ sequence) × (sequence ≤ at.now.numbers.watch.limit) }
+    requires side { length (matrix_of matrix) ≡ stations at.now.numbers.watch.faults * stations at.now.numbers.watch.faults }
+    ensures { frame_of result ≡ frame (said_proposal at.now.index at.now.numbers.watch.faults sequence (matrix_of matrix)) }
 {
-    slot(
-        sender,
-        watch.faults,
-        &Message::Proposal { sequence, matrix },
-    )
+    let message = Message::Proposal { sequence, matrix };
+    slot(at.index as u8, at.numbers.watch.faults, &message)
 }
 
 // The number of the station's next proposal, if it can be sent.
@@ -62,33 +58,30 @@ fn next_number(numbers: Numbers, end: u16, last: u8, i: usize) -> Result<u8, Fau
     ensures fits { IfOk result (λ q. (end < numbers.wire) × ((1 ≤ q) × (q ≤ numbers.watch.limit))) }
 {
     if i != numbers.leader as usize {
-        return Err(Fault::new(Reason::NotLeader, 0));
+        return Err(Reason::NotLeader.into());
     }
     if last >= numbers.watch.limit {
-        return Err(Fault::new(Reason::NumbersUsed, 0));
+        return Err(Reason::NumbersUsed.into());
     }
     if end >= numbers.wire {
-        return Err(Fault::new(Reason::WireFull, 0));
+        return Err(Reason::WireFull.into());
     }
     Ok(last + 1)
 }
 
 // The proposal that the leader is to send.
-pub fn to_propose<M: Machine>(
-    numbers: Numbers,
-    end: u16,
-    last: u8,
-    t: &Tables<'_, M>,
-    station: u32,
-) -> Result<Numbered, Fault>
-    ensures is { seen_as out_of result ≡ to_propose (plan_of numbers) end last (contents M.Op.Operation.bits M.Machine.means t.now) station }
-    ensures fits { IfOk result (λ x. Sendable (plan_of numbers) end (lengths_of t.now) station x.sequence) }
+pub fn to_propose<M: Machine>(run: &Snapshot<'_, '_, M>, station: u32) -> Result<Numbered, Fault>
+    ensures is { seen_as out_of result ≡ to_propose (plan_of run.now.numbers) run.now.end run.now.last (contents M.Op.Operation.bits M.Machine.means run.now.tables.now) station }
+    ensures fits { IfOk result (λ x. Sendable (plan_of run.now.numbers) run.now.end (lengths_of run.now.tables.now) station x.sequence) }
 {
-    let i = numbers.correct(t, station)?;
-    let sequence = next_number(numbers, end, last, i)?;
+    let numbers = run.numbers;
+    let t = run.tables;
+    let at = numbers.correct(t, station)?;
+    let i = at.index;
+    let sequence = next_number(numbers, run.end, run.last, i)?;
     let matrix = kept_rows(numbers, t.kept, i);
     Ok(Numbered {
         sequence,
-        slot: proposal(numbers.watch, i as u8, sequence, matrix),
+        slot: proposal(&at, sequence, matrix),
     })
 }

@@ -1,7 +1,6 @@
 ghost use Rattle.std.specs.Prelude.{◌≡◌, ℕ, ◌+◌, ◌<◌, ◌≤◌, min, length, get_or, IfOk};
 ghost use Rattle.frames.specs.Said.{request as request_said};
 ghost use Rattle.frames.specs.Writing.{frame};
-ghost use Rattle.model.specs.Quorums.{stations};
 ghost use Rattle.sending.specs.Sends.{out_of, sequence_by, to_submit};
 ghost use Rattle.sending.specs.Writers.{Sendable};
 ghost use Rattle.tables.specs.Contents.{contents, frame_of};
@@ -10,8 +9,8 @@ ghost use Rattle.tables.specs.Refusing.{seen_as};
 
 use crate::numbered::Numbered;
 use frames::Message;
-use model::{Fault, Machine, Operation, Reason, Watch};
-use tables::{Counts, Numbers, Slot, Tables};
+use model::{Fault, Machine, Operation, Reason};
+use tables::{Counts, Numbers, Slot, Snapshot, Station};
 use wire::slot;
 
 // How many operations the station has submitted, as read in a watch of this length.
@@ -30,38 +29,39 @@ fn next_sequence(numbers: Numbers, end: u16, counts: &[Counts], i: usize) -> Res
 {
     let used = submitted_by(counts, i, numbers.watch.limit);
     if used >= numbers.watch.limit {
-        return Err(Fault::new(Reason::NumbersUsed, 0));
+        return Err(Reason::NumbersUsed.into());
     }
     if end >= numbers.wire {
-        return Err(Fault::new(Reason::WireFull, 0));
+        return Err(Reason::WireFull.into());
     }
     Ok(used + 1)
 }
 
-// The frame of a request.
-fn request(watch: Watch, sender: u8, sequence: u8, packed: u64) -> Slot
-    requires sender { sender < stations watch.faults }
-    requires sequence { (1 ≤ sequence) × (sequence ≤ watch.limit) }
-    ensures { frame_of result ≡ frame (request_said sender watch.faults sequence packed) }
+// The frame of the station's request.
+// Kept: the range of the sequence as a `requires` of its own, since no type of a number knows the length of its watch.
+fn request<M: Machine>(at: &Station<'_, '_, M>, sequence: u8, packed: u64) -> Slot
+    requires { (1 ≤ sequence) × (sequence ≤ at.now.numbers.watch.limit) }
+    ensures { frame_of result ≡ frame (request_said at.now.index at.now.numbers.watch.faults sequence packed) }
 {
-    slot(sender, watch.faults, &Message::Request { sequence, packed })
+    let message = Message::Request { sequence, packed };
+    slot(at.index as u8, at.numbers.watch.faults, &message)
 }
 
 // The request that the station is to send for its operation.
 pub fn to_submit<M: Machine>(
-    numbers: Numbers,
-    end: u16,
-    t: &Tables<'_, M>,
+    run: &Snapshot<'_, '_, M>,
     station: u32,
     u: &M::Op,
 ) -> Result<Numbered, Fault>
-    ensures is { seen_as out_of result ≡ to_submit (plan_of numbers) end (contents M.Op.Operation.bits M.Machine.means t.now) station (M.Op.Operation.bits u.now) }
-    ensures fits { IfOk result (λ x. Sendable (plan_of numbers) end (lengths_of t.now) station x.sequence) }
+    ensures is { seen_as out_of result ≡ to_submit (plan_of run.now.numbers) run.now.end (contents M.Op.Operation.bits M.Machine.means run.now.tables.now) station (M.Op.Operation.bits u.now) }
+    ensures fits { IfOk result (λ x. Sendable (plan_of run.now.numbers) run.now.end (lengths_of run.now.tables.now) station x.sequence) }
 {
-    let i = numbers.correct(t, station)?;
-    let sequence = next_sequence(numbers, end, t.counts, i)?;
+    let numbers = run.numbers;
+    let t = run.tables;
+    let at = numbers.correct(t, station)?;
+    let sequence = next_sequence(numbers, run.end, t.counts, at.index)?;
     Ok(Numbered {
         sequence,
-        slot: request(numbers.watch, i as u8, sequence, u.pack()),
+        slot: request(&at, sequence, u.pack()),
     })
 }

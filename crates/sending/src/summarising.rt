@@ -9,20 +9,13 @@ ghost use Rattle.tables.specs.Contents.{contents, frame_of};
 ghost use Rattle.tables.specs.Plans.{lengths_of, plan_of, word_places};
 ghost use Rattle.tables.specs.Refusing.{seen_as};
 
+use crate::gathering::gathered;
 use frames::Message;
-use model::{Fault, Machine, Operation, Reason, Watch};
+use model::{Fault, Machine, Operation, Reason};
 use order::unbroken;
 use rows::Row;
-use tables::{Numbers, Slot, Tables};
+use tables::{Numbers, Slot, Snapshot, Station};
 use wire::slot;
-
-// The places from this one on.
-fn rest<W>(places: &[Option<W>], from: usize) -> &[Option<W>]
-    requires { from ≤ length places.now }
-    ensures { result.now ≡ drop from places.now }
-{
-    &places[from..]
-}
 
 // The longest unbroken run of the origin's sequences, from 1, that have a certificate at the station.
 fn certified_run<O: Operation>(numbers: Numbers, words: &[Option<O>], i: usize, origin: usize) -> u8
@@ -33,7 +26,7 @@ fn certified_run<O: Operation>(numbers: Numbers, words: &[Option<O>], i: usize, 
 {
     let n = numbers.watch.stations() as usize;
     let from = (i * n + origin) * numbers.watch.limit as usize * n;
-    unbroken(numbers.watch, rest(words, from), origin)
+    unbroken(numbers.watch, &words[from..], origin)
 }
 
 // The station's row: for each origin, how far its sequences have certificates there.
@@ -43,36 +36,32 @@ fn row_at<O: Operation>(numbers: Numbers, words: &[Option<O>], i: usize) -> Row
     ensures { row_of result ≡ row_at (plan_of numbers) (held O.Operation.bits words.now) i }
 {
     let n = numbers.watch.stations() as usize;
-    let mut row = Row::zero(n);
-    for origin in 0..n {
-        row.set(origin, certified_run(numbers, words, i, origin));
-    }
-    row
+    gathered(n, |origin| certified_run(numbers, words, i, origin))
 }
 
-// The frame of a summary.
-fn summary(watch: Watch, sender: u8, row: Row) -> Slot
-    requires sender { sender < stations watch.faults }
-    requires side { length (row_of row) ≡ stations watch.faults }
-    ensures { frame_of result ≡ frame (said_summary sender watch.faults (row_of row)) }
+// The frame of the station's summary.
+fn summary<M: Machine>(at: &Station<'_, '_, M>, row: Row) -> Slot
+    requires { length (row_of row) ≡ stations at.now.numbers.watch.faults }
+    ensures { frame_of result ≡ frame (said_summary at.now.index at.now.numbers.watch.faults (row_of row)) }
 {
-    slot(sender, watch.faults, &Message::Summary { row })
+    slot(
+        at.index as u8,
+        at.numbers.watch.faults,
+        &Message::Summary { row },
+    )
 }
 
 // The summary that the station is to send.
-pub fn to_summarise<M: Machine>(
-    numbers: Numbers,
-    end: u16,
-    t: &Tables<'_, M>,
-    station: u32,
-) -> Result<Slot, Fault>
-    ensures is { seen_as frame_of result ≡ to_summarise (plan_of numbers) end (contents M.Op.Operation.bits M.Machine.means t.now) station }
-    ensures fits { OnOk result (Sendable (plan_of numbers) end (lengths_of t.now) station 0) }
+pub fn to_summarise<M: Machine>(run: &Snapshot<'_, '_, M>, station: u32) -> Result<Slot, Fault>
+    ensures is { seen_as frame_of result ≡ to_summarise (plan_of run.now.numbers) run.now.end (contents M.Op.Operation.bits M.Machine.means run.now.tables.now) station }
+    ensures fits { OnOk result (Sendable (plan_of run.now.numbers) run.now.end (lengths_of run.now.tables.now) station 0) }
 {
-    let i = numbers.correct(t, station)?;
-    if end >= numbers.wire {
-        return Err(Fault::new(Reason::WireFull, 0));
+    let numbers = run.numbers;
+    let t = run.tables;
+    let at = numbers.correct(t, station)?;
+    if run.end >= numbers.wire {
+        return Err(Reason::WireFull.into());
     }
-    let row = row_at(numbers, t.words, i);
-    Ok(summary(numbers.watch, i as u8, row))
+    let row = row_at(numbers, t.words, at.index);
+    Ok(summary(&at, row))
 }

@@ -1,10 +1,9 @@
 -- What a line of a sheet holds.
-use Rattle.std.specs.Prelude.{ℕ, List, Some, None, Option, slice_index}
+use Rattle.std.specs.Prelude.{ℕ, List, Some, None, Ok, Err, Option, Result, slice_index}
 use Rattle.canal.specs.GateOrders.{Order, order, said, wrong}
 use Rattle.lines.specs.Numbers.{numbers_of}
 use Rattle.model.specs.declared.fault.Fault.{Fault}
-use Rattle.sheet_frames.specs.declared.line.Line.{Line}
-use Rattle.sheet_frames.specs.declared.line.Line.TheVariants as line
+use Rattle.sheet_frames.specs.declared.line.Entry.{Entry}
 
 -- An order with the station that is to submit it, the refusal of numbers that make no order, or neither.
 pub data Meant : Type 0 where
@@ -12,10 +11,10 @@ pub data Meant : Type 0 where
   refused : (fault : Fault) → Meant
   bad : Meant
 
-abbrev pub meant_by : Line → Meant
-meant_by (line.Order station u) = ordered station (said u)
-meant_by (line.Refused e) = refused e
-meant_by line.Bad = bad
+abbrev pub meant_by : Option (Result Entry Fault) → Meant
+meant_by (Some (Ok x)) = ordered x.station (said x.order)
+meant_by (Some (Err e)) = refused e
+meant_by None = bad
 
 -- The order, unless there is none of its numbers.
 abbrev pub unless : Option Fault → ℕ → Order → Meant

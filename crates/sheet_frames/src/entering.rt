@@ -4,7 +4,7 @@ ghost use Rattle.runs.specs.Perform.{run_of};
 ghost use Rattle.sheet_frames.specs.Entering.{Enters, on_line};
 ghost use Rattle.sheet_frames.specs.Sheets.{line_of};
 
-use crate::line::{Line, read_line};
+use crate::line::{Entry, read_line};
 use canal::GateOrder;
 use gates::GateBoard;
 use model::Fault;
@@ -19,9 +19,8 @@ pub fn enter(
 ) -> Option<Result<Sent, Fault>>
     ensures { Enters (on_line (line_of text.now) (run_of (λ u. packed (said u)) means run.old t.old)) result (run_of (λ u. packed (said u)) means run.old t.old) (run_of (λ u. packed (said u)) means run.new t.new) }
 {
-    match read_line(text) {
-        Line::Order { station, order } => Some(run.submit(t, station, &order)),
-        Line::Refused(fault) => Some(Err(fault)),
-        Line::Bad => None,
+    match read_line(text)? {
+        Ok(Entry { station, order }) => Some(run.submit(t, station, &order)),
+        Err(fault) => Some(Err(fault)),
     }
 }

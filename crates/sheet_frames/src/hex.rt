@@ -4,6 +4,7 @@ ghost use Rattle.sheet_frames.specs.Hex.{digit_of};
 use std::fmt;
 
 // The upper-case hexadecimal digit of a number below 16.
+// Kept: digits of our own, since their contract says which they are, and no clause speaks of what `{:02X}` prints.
 fn digit(n: u8) -> char
     requires { n < 16 }
     ensures { result ≡ digit_of n }
@@ -33,12 +34,8 @@ impl<'a> Hex<'a> {
     pub fn front(bytes: &'a [u8], n: usize) -> Hex<'a>
         ensures { result.bytes.now ≡ take n bytes.now }
     {
-        if n <= bytes.len() {
-            Hex {
-                bytes: &bytes[0..n],
-            }
-        } else {
-            Hex { bytes }
+        Hex {
+            bytes: &bytes[..n.min(bytes.len())],
         }
     }
 }

@@ -4,27 +4,20 @@ ghost use Rattle.std.specs.Prelude.{◌≡◌};
 use canal::GateOrder;
 use model::Fault;
 
-// What a line of a sheet holds.
-#[derive(Clone, Copy)]
-pub enum Line {
-    // An order, and the station that is to submit it.
-    Order { station: u32, order: GateOrder },
-    // Six numbers that make no order.
-    Refused(Fault),
-    // Anything else.
-    Bad,
+// An order, and the station that is to submit it.
+#[derive(Clone, Copy, PartialEq, Eq, Debug)]
+pub struct Entry {
+    pub station: u32,
+    pub order: GateOrder,
 }
 
-// What the line holds: six numbers, the first of which is the station's, or anything else.
-pub fn read_line(text: &[u8]) -> Line
+// What the line holds: six numbers, the first of which is the station's, if they make an order; nothing for any other line.
+pub fn read_line(text: &[u8]) -> Option<Result<Entry, Fault>>
     ensures { meant_by result ≡ line_of text.now }
 {
-    let Some(ns) = lines::numbers::<6>(text) else {
-        return Line::Bad;
-    };
-    let [station, gate, opening, day, minute, number] = ns;
+    let [station, gate, opening, day, minute, number] = lines::numbers::<6>(text)?;
     match GateOrder::new(gate, opening, day, minute, number) {
-        Ok(order) => Line::Order { station, order },
-        Err(fault) => Line::Refused(fault),
+        Ok(order) => Some(Ok(Entry { station, order })),
+        Err(fault) => Some(Err(fault)),
     }
 }

@@ -10,18 +10,23 @@ use canal::GateOrder;
 use entering::enter;
 use gates::GateBoard;
 use hex::Hex;
-use lines::split_line;
+use lines::Lines;
 use model::Fault;
 use rows::{Matrix, Row};
-use runs::{Fitted, Open};
+use runs::{Fitted, Open, Sent};
 use std::alloc::{AllocError, Global};
-use std::io;
 use std::io::Read;
-use tables::{Counts, Entry, Slot, Tables};
+use std::{fmt, io};
+use tables::{Counts, Entry, Setup, Slot, Tables};
 
-fn print_refusal(rt: &HostRuntime, fault: Fault) -> io::Result<()> {
-    let number = fault.reason.number();
-    println!(rt; "no {number}")
+// A refusal, as it is printed.
+#[derive(Clone, Copy)]
+struct Refusal(Fault);
+
+impl fmt::Display for Refusal {
+    fn fmt<W: fmt::Write>(&self, f: &mut fmt::Formatter<W>) -> fmt::Result {
+        write!(f, "no {}", self.0.reason.number())
+    }
 }
 
 // Prints the answer to one line.
@@ -32,12 +37,8 @@ fn print_answer(
     text: &[u8],
 ) -> io::Result<()> {
     match enter(run, t, text) {
-        Some(Ok(sent)) => {
-            let sequence = sent.sequence;
-            let place = sent.place;
-            println!(rt; "{sequence} {place}")
-        }
-        Some(Err(fault)) => print_refusal(rt, fault),
+        Some(Ok(Sent { sequence, place })) => println!(rt; "{sequence} {place}"),
+        Some(Err(fault)) => println!(rt; "{}", Refusal(fault)),
         None => println!(rt; "bad"),
     }
 }
@@ -48,26 +49,22 @@ fn print_answers(
     t: &mut Tables<'_, GateBoard>,
     text: &[u8],
 ) -> io::Result<()> {
-    let mut rest = text;
-    while !rest.is_empty() {
-        let (line, more) = split_line(rest);
+    for line in Lines::of(text) {
         print_answer(rt, run, t, line)?;
-        rest = more;
     }
     Ok(())
 }
 
 // Prints the frames from place 0 to the wire's end.
 fn print_frames(rt: &HostRuntime, run: &Open, t: &Tables<'_, GateBoard>) -> io::Result<()> {
+    // Kept: a call takes the number of a place, and there is nothing else to go over.
     for place in 0..PLACES as u32 {
         let mut to = [0; 194];
-        match run.show(t, place, &mut to) {
-            Ok(len) => {
-                let frame = Hex::front(&to, len);
-                println!(rt; "{frame}")?;
-            }
-            Err(_) => return Ok(()),
-        }
+        let Ok(len) = run.show(t, place, &mut to) else {
+            break;
+        };
+        let frame = Hex::front(&to, len);
+        println!(rt; "{frame}")?;
     }
     Ok(())
 }
@@ -79,28 +76,32 @@ fn serve(
     board: &GateBoard,
     text: &[u8],
 ) -> io::Result<()> {
-    let fitted = match Fitted::new(1, 8, 0, 0, t) {
+    let fitted = match Fitted::new(SETUP, t) {
         Ok(fitted) => fitted,
-        Err(fault) => return print_refusal(rt, fault),
+        Err(fault) => return println!(rt; "{}", Refusal(fault)),
     };
     let mut run = match fitted.open(t, board) {
         Ok(run) => run,
-        Err(declined) => return print_refusal(rt, declined.fault),
+        Err(declined) => return println!(rt; "{}", Refusal(declined.fault)),
     };
     print_answers(rt, &mut run, t, text)?;
     print_frames(rt, &run, t)
 }
+
+// Four stations, one of which may be faulty though none is, and a watch of length 8; station 0 leads.
+const SETUP: Setup = Setup {
+    faults: 1,
+    length: 8,
+    leader: 0,
+    faulty: 0,
+};
 
 // Four stations with eight numbers each send at most 32 requests.
 const PLACES: usize = 32;
 
 // So many executed entries, all absent.
 fn absent(heap: Global, n: usize) -> Result<Vec<Option<Entry<GateOrder>>>, AllocError> {
-    let mut entries = Vec::new(heap);
-    for _ in 0..n {
-        entries.push(None)?;
-    }
-    Ok(entries)
+    (0..n).map(|_| None).collect(heap)
 }
 
 // Serves the sheet over tables for four stations and a watch of length 8.
@@ -141,6 +142,6 @@ fn main(rt: HostRuntime) -> io::Result<()> {
     rt.stdin().read_to_end(&mut text)?;
     match GateBoard::new(40, true) {
         Ok(board) => run_sheet(&rt, &board, text.as_slice()),
-        Err(fault) => print_refusal(&rt, fault),
+        Err(fault) => println!(rt; "{}", Refusal(fault)),
     }
 }

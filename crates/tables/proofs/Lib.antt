@@ -1,7 +1,8 @@
 pub mod Certified
-pub mod Clearing
 pub mod Indices
 pub mod Items
 pub mod Opened
 pub mod Lengths
 pub mod Stages
+pub mod Readable
+pub mod Fronts

@@ -7,6 +7,13 @@ use Rattle.model.specs.declared.fault.Reason.TheVariants.{ShortTable, NoStation,
 use Rattle.tables.specs.Plans.{Lengths, Places, Plan, Stations, short}
 use Rattle.tables.specs.Refusing.{refuse}
 
+-- The station i: a table is too short, or there is no such station.
+abbrev pub known_in : Plan → Lengths → ℕ → Result ℕ Fault
+known_in p t i =
+    refuse (short (stations p.faults) p.limit p.wire t) ShortTable
+    (refuse (nat_le (stations p.faults) i) NoStation
+    (Ok i))
+
 -- The station i, where this says whether it is of the wrong kind: a table is too short, there is no such station, or it is wrong.
 abbrev pub station_in : Plan → Lengths → ℕ → Bool → Result ℕ Fault
 station_in p t i wrong =

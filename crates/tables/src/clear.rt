@@ -1,34 +1,14 @@
-ghost use Rattle.std.specs.Prelude.{◌≡◌, ℕ, ◌<◌, ◌≤◌, map, length, None};
-ghost use Rattle.tables.specs.Cleared.{front};
+ghost use Rattle.std.specs.Prelude.{◌≡◌, ℕ, ◌<◌, ◌≤◌, length, drop, slice_index_or};
 
-use model::Machine;
-
-// Empties the first n places.
-pub(crate) fn empty<T: Drop>(places: &mut [Option<T>], n: usize)
-    requires { n ≤ length places.old }
-    ensures { places.new ≡ front n None places.old }
+// Makes the first n items what the calls give. What lies behind stays.
+pub(crate) fn fill_front<T: Drop, F: Fn() -> T>(items: &mut [T], n: usize, item: F)
+    requires within { n ≤ length items.old }
+    requires callable { F.IsAlwaysCallable item }
+    ensures long { length items.new ≡ length items.old }
+    ensures front { (k : ℕ) (d : T) → k < n → F.post item (slice_index_or items.new k d) }
+    ensures behind { drop n items.new ≡ drop n items.old }
 {
-    for i in 0..n {
-        places[i] = None;
-    }
-}
-
-// Makes the first n items this one.
-pub(crate) fn fill<T: Copy>(items: &mut [T], n: usize, value: T)
-    requires { n ≤ length items.old }
-    ensures { items.new ≡ front n value items.old }
-{
-    for i in 0..n {
-        items[i] = value;
-    }
-}
-
-// Makes the first n machines copies of this one.
-pub(crate) fn copy_all<M: Machine + Drop>(machines: &mut [M], n: usize, start: &M)
-    requires { n ≤ length machines.old }
-    ensures { map M.Machine.means machines.new ≡ front n (M.Machine.means start.now) (map M.Machine.means machines.old) }
-{
-    for i in 0..n {
-        machines[i] = start.copy();
+    for place in items[..n].iter_mut() {
+        *place = item();
     }
 }

@@ -1,10 +1,10 @@
-ghost use Rattle.std.specs.Prelude.{◌≡◌, ℕ, ◌+◌, ◌*◌, ◌^◌, ◌<◌, ◌≤◌, false, ◌||◌};
+ghost use Rattle.std.specs.Prelude.{◌≡◌, ℕ, ◌+◌, ◌*◌, ◌^◌, ◌<◌, ◌≤◌, ◌||◌};
 ghost use Rattle.model.specs.Quorums.{stations};
-ghost use Rattle.tables.specs.Plans.{Places, Stations, entry_places, few_places, few_stations, fitted, lengths_of, plan_of, short, vote_places, word_places};
+ghost use Rattle.tables.specs.Plans.{entry_places, few_places, few_stations, fitted, lengths_of, plan_of, short, vote_places, word_places};
 ghost use Rattle.tables.specs.Refusing.{seen_as};
 ghost use Rattle.std.specs.Int.Count.{ones};
 
-use crate::numbers::Numbers;
+use crate::numbers::{Numbers, Setup};
 use crate::tables::Tables;
 use model::{Fault, Machine, Reason, Watch};
 
@@ -33,8 +33,7 @@ pub(crate) fn entry_places(watch: Watch) -> usize
 }
 
 fn few_places<M: Machine>(watch: Watch, t: &Tables<'_, M>) -> bool
-    ensures is { result ≡ few_places (stations watch.faults) watch.limit (lengths_of t.now) }
-    ensures room { result ≡ false → Places (stations watch.faults) watch.limit (lengths_of t.now) }
+    ensures { result ≡ few_places (stations watch.faults) watch.limit (lengths_of t.now) }
 {
     let votes = vote_places(watch);
     t.words.len() < word_places(watch)
@@ -44,8 +43,7 @@ fn few_places<M: Machine>(watch: Watch, t: &Tables<'_, M>) -> bool
 }
 
 fn few_stations<M: Machine>(watch: Watch, wire: usize, t: &Tables<'_, M>) -> bool
-    ensures is { result ≡ few_stations (stations watch.faults) wire (lengths_of t.now) }
-    ensures room { result ≡ false → Stations (stations watch.faults) wire (lengths_of t.now) }
+    ensures { result ≡ few_stations (stations watch.faults) wire (lengths_of t.now) }
 {
     let n = watch.stations() as usize;
     t.wire.len() < wire
@@ -57,42 +55,31 @@ fn few_stations<M: Machine>(watch: Watch, wire: usize, t: &Tables<'_, M>) -> boo
 
 // Whether a table is too short for a watch and this many places of the wire.
 pub(crate) fn too_short<M: Machine>(watch: Watch, wire: usize, t: &Tables<'_, M>) -> bool
-    ensures is { result ≡ short (stations watch.faults) watch.limit wire (lengths_of t.now) }
-    ensures places { result ≡ false → Places (stations watch.faults) watch.limit (lengths_of t.now) }
-    ensures stations { result ≡ false → Stations (stations watch.faults) wire (lengths_of t.now) }
+    ensures { result ≡ short (stations watch.faults) watch.limit wire (lengths_of t.now) }
 {
     few_places(watch, t) || few_stations(watch, wire, t)
 }
 
 impl Numbers {
     // Checks the numbers of a run and the tables that it is to have.
-    pub fn fit<M: Machine>(
-        f: u32,
-        length: u32,
-        leader: u32,
-        faulty: u32,
-        t: &Tables<'_, M>,
-    ) -> Result<Numbers, Fault>
-        ensures { seen_as plan_of result ≡ fitted f length leader faulty (lengths_of t.now) }
+    pub fn fit<M: Machine>(setup: Setup, t: &Tables<'_, M>) -> Result<Numbers, Fault>
+        ensures { seen_as plan_of result ≡ fitted setup.faults setup.length setup.leader setup.faulty (lengths_of t.now) }
     {
-        let watch = match Watch::new(f, length) {
-            Ok(watch) => watch,
-            Err(reason) => return Err(Fault::new(reason, 0)),
-        };
+        let watch = Watch::new(setup.faults, setup.length)?;
         let n = watch.stations() as u32;
-        if leader >= n {
-            return Err(Fault::new(Reason::Leader, 0));
+        if setup.leader >= n {
+            return Err(Reason::Leader.into());
         }
-        if faulty >= 1 << n || faulty.count_ones() > f {
-            return Err(Fault::new(Reason::FaultySet, 0));
+        if setup.faulty >= 1 << n || setup.faulty.count_ones() > setup.faults {
+            return Err(Reason::FaultySet.into());
         }
         if too_short(watch, 1, t) {
-            return Err(Fault::new(Reason::ShortTable, 0));
+            return Err(Reason::ShortTable.into());
         }
         Ok(Numbers {
             watch,
-            leader: leader as u8,
-            faulty: faulty as u16,
+            leader: setup.leader as u8,
+            faulty: setup.faulty as u16,
             wire: t.wire.len().min(65535) as u16,
         })
     }

@@ -3,7 +3,7 @@ ghost use Rattle.model.specs.Quorums.{stations};
 ghost use Rattle.tables.specs.Contents.{Lays, contents, opened_on};
 ghost use Rattle.tables.specs.Plans.{Places, Stations, lengths_of, plan_of};
 
-use crate::clear::{copy_all, empty, fill};
+use crate::clear::fill_front;
 use crate::fit::{too_short, vote_places, word_places};
 use crate::numbers::Numbers;
 use crate::tables::{Counts, Tables};
@@ -18,17 +18,17 @@ fn clear<M: Machine + Drop>(numbers: Numbers, t: &mut Tables<'_, M>, start: &M)
 {
     let n = numbers.watch.stations() as usize;
     let votes = vote_places(numbers.watch);
-    empty(t.words, word_places(numbers.watch));
-    empty(t.votes, votes);
-    empty(t.commits, votes);
-    fill(t.kept, n * n, Row::zero(n));
-    copy_all(t.machines, n, start);
+    fill_front(t.words, word_places(numbers.watch), || None);
+    fill_front(t.votes, votes, || None);
+    fill_front(t.commits, votes, || None);
+    fill_front(t.kept, n * n, || Row::zero(n));
+    fill_front(t.machines, n, || start.copy());
     let none = Counts {
         submitted: 0,
         executed: 0,
     };
-    fill(t.counts, n, none);
-    fill(t.accused, n, 0);
+    fill_front(t.counts, n, || none);
+    fill_front(t.accused, n, || 0);
 }
 
 impl Numbers {
@@ -37,7 +37,7 @@ impl Numbers {
         ensures { Lays (plan_of self) (M.Machine.means start.now) (lengths_of t.old) (contents M.Op.Operation.bits M.Machine.means t.old) result (contents M.Op.Operation.bits M.Machine.means t.new) }
     {
         if too_short(self.watch, self.wire as usize, t) {
-            return Err(Fault::new(Reason::ShortTable, 0));
+            return Err(Reason::ShortTable.into());
         }
         clear(self, t, start);
         Ok(())

@@ -6,8 +6,11 @@ mod fit;
 mod laying;
 mod numbers;
 mod reading;
+mod snapshot;
 mod stations;
 mod tables;
 
-pub use numbers::Numbers;
+pub use numbers::{Numbers, Setup};
+pub use snapshot::Snapshot;
+pub use stations::Station;
 pub use tables::{Counts, Entry, Slot, Tables};

@@ -2,6 +2,16 @@ ghost use Rattle.std.specs.Prelude.{◌+◌, ◌*◌, ◌<◌, ◌≤◌};
 
 use model::Watch;
 
+// The numbers that a run is asked for with: how many stations may be faulty, the watch length, the leader, and the set of
+// the faulty stations.
+#[derive(Clone, Copy, PartialEq, Eq, Debug)]
+pub struct Setup {
+    pub faults: u32,
+    pub length: u32,
+    pub leader: u32,
+    pub faulty: u32,
+}
+
 // The numbers of a run that never change: the watch, the leader, the set of the faulty stations, and how many places of the
 // wire are used.
 #[derive(Clone, Copy)]

@@ -2,50 +2,30 @@ ghost use Rattle.std.specs.Prelude.{◌≡◌, ℕ, ◌+◌, ◌<◌, ◌≤◌,
 ghost use Rattle.model.specs.Decided.{certified_by};
 ghost use Rattle.model.specs.Quorums.{held, stations};
 ghost use Rattle.tables.specs.Contents.{contents, done_of};
-ghost use Rattle.tables.specs.Plans.{Places, Stations, lengths_of, plan_of, word_places};
-ghost use Rattle.tables.specs.Reading.{accused_by, certified_at, executed_at, first_place, joined, state_of, unread};
+ghost use Rattle.tables.specs.Plans.{lengths_of, plan_of, word_places};
+ghost use Rattle.tables.specs.Reading.{accused_by, certified_at, executed_at, first_place, joined, state_of};
 ghost use Rattle.std.specs.Option.{option_map};
 ghost use Rattle.std.specs.List.{slice_get};
 
-use crate::fit::too_short;
 use crate::numbers::Numbers;
 use crate::tables::{Counts, Entry, Tables};
-use model::{Machine, Operation, Watch, certified, names};
+use model::{Machine, Operation, Watch, certified};
 
 impl Numbers {
-    // Whether nothing is read of this station.
-    fn unread<M: Machine>(self, t: &Tables<'_, M>, station: u32) -> bool
-        ensures is { result ≡ unread (plan_of self) (lengths_of t.now) station }
-        ensures places { result ≡ false → Places (stations self.watch.faults) self.watch.limit (lengths_of t.now) }
-        ensures stations { result ≡ false → Stations (stations self.watch.faults) self.wire (lengths_of t.now) }
-        ensures station { result ≡ false → station < stations self.watch.faults }
-    {
-        too_short(self.watch, self.wire as usize, t)
-            || station >= self.watch.stations() as u32
-            || names(self.faulty, station as usize)
-    }
-
     // The set of the speakers that the station has found two-faced.
     pub fn accused<M: Machine>(self, t: &Tables<'_, M>, station: u32) -> Option<u16>
         ensures { result ≡ accused_by (plan_of self) (lengths_of t.now) (contents M.Op.Operation.bits M.Machine.means t.now) station }
     {
-        if self.unread(t, station) {
-            return None;
-        }
-        match at(t.accused, station as usize) {
-            Some(set) => Some(*set),
-            None => None,
-        }
+        let at = self.correct(t, station).ok()?;
+        t.accused.get(at.index).copied()
     }
 
     // The station's machine.
     pub fn machine<'b, M: Machine>(self, t: &'b Tables<'_, M>, station: u32) -> Option<&'b M>
         ensures { option_map (λ m. M.Machine.means m.now) result ≡ state_of (plan_of self) (lengths_of t.now) (contents M.Op.Operation.bits M.Machine.means t.now) station }
     {
-        if self.unread(t, station) {
-            return None;
-        }
-        at(t.machines, station as usize)
+        let at = self.correct(t, station).ok()?;
+        t.machines.get(at.index)
     }
 
     // The operation that has a certificate at the station, for this origin and sequence.
@@ -58,16 +38,16 @@ impl Numbers {
     ) -> Option<&'b M::Op>
         ensures { option_map (λ u. M.Op.Operation.bits u.now) result ≡ certified_at (plan_of self) (lengths_of t.now) (contents M.Op.Operation.bits M.Machine.means t.now) station origin sequence }
     {
-        if self.unread(t, station) {
-            return None;
-        }
+        let at = self.correct(t, station).ok()?;
         let n = self.watch.stations() as u32;
         if origin >= n || sequence < 1 || sequence > self.watch.limit as u32 {
             return None;
         }
-        let from = first_place(self.watch, station, origin, sequence);
+        let from = first_place(self.watch, at.index, origin, sequence);
         certified_in(
-            places_from(t.words, from, n as usize),
+            t.words,
+            from,
+            n as usize,
             origin as usize,
             self.watch.faults,
         )
@@ -82,42 +62,40 @@ impl Numbers {
     ) -> Option<&'b Entry<M::Op>>
         ensures { option_map (λ e. done_of M.Op.Operation.bits e.now) result ≡ executed_at (plan_of self) (lengths_of t.now) (contents M.Op.Operation.bits M.Machine.means t.now) station position }
     {
-        if self.unread(t, station) {
-            return None;
-        }
+        let at = self.correct(t, station).ok()?;
         let most = self.watch.stations() as usize * self.watch.limit as usize;
-        if position as usize >= executed_by(t.counts, station as usize, most) {
+        if position as usize >= executed_by(t.counts, at.index, most) {
             return None;
         }
-        present(t.executed, station as usize * most + position as usize)
+        present(t.executed, at.index * most + position as usize)
     }
 }
 
 // Where the places of an origin's sequence begin at a station.
-fn first_place(watch: Watch, station: u32, origin: u32, sequence: u32) -> usize
+// Kept: the range of the sequence as a `requires` of its own, since no type of a number knows the length of its watch.
+fn first_place(watch: Watch, station: usize, origin: u32, sequence: u32) -> usize
     requires stations { (station < stations watch.faults) × (origin < stations watch.faults) }
     requires sequence { (1 ≤ sequence) × (sequence ≤ watch.limit) }
     ensures is { result ≡ first_place (stations watch.faults) watch.limit station origin sequence }
     ensures fits { result + stations watch.faults ≤ word_places (stations watch.faults) watch.limit }
 {
     let n = watch.stations() as usize;
-    let row = station as usize * n + origin as usize;
+    let row = station * n + origin as usize;
     (row * watch.limit as usize + (sequence as usize - 1)) * n
 }
 
-// The part of `n` places from this place on, as far as there are so many.
-fn places_from<W>(places: &[Option<W>], from: usize, n: usize) -> &[Option<W>]
-    requires { from + n ≤ length places.now }
-    ensures { result.now ≡ take n (drop from places.now) }
+// The word that has a certificate among the n places from this one on, by its packed form.
+fn certified_in<O: Operation>(
+    words: &[Option<O>],
+    from: usize,
+    n: usize,
+    origin: usize,
+    f: u8,
+) -> Option<&O>
+    requires { from + n ≤ length words.now }
+    ensures { option_map (λ u. O.Operation.bits u.now) result ≡ certified_by nat_eq f (take n (drop from (held O.Operation.bits words.now))) origin }
 {
-    &places[from..from + n]
-}
-
-// The word that has a certificate among these places, by its packed form.
-fn certified_in<O: Operation>(places: &[Option<O>], origin: usize, f: u8) -> Option<&O>
-    ensures { option_map (λ u. O.Operation.bits u.now) result ≡ certified_by nat_eq f (held O.Operation.bits places.now) origin }
-{
-    certified(places, origin, f)
+    certified(&words[from..from + n], origin, f)
 }
 
 // How many operations the station has executed, read as at most this many.
@@ -132,19 +110,5 @@ fn executed_by(counts: &[Counts], station: usize, most: usize) -> usize
 fn present<T>(items: &[Option<T>], place: usize) -> Option<&T>
     ensures { option_map (λ x. x.now) result ≡ joined (slice_get items.now place) }
 {
-    match at(items, place) {
-        Some(item) => item.as_ref(),
-        None => None,
-    }
-}
-
-// The item at this place, if there is one.
-fn at<T>(items: &[T], place: usize) -> Option<&T>
-    ensures { option_map (λ x. x.now) result ≡ slice_get items.now place }
-{
-    if place < items.len() {
-        Some(&items[place])
-    } else {
-        None
-    }
+    items.get(place)?.as_ref()
 }

@@ -4,6 +4,7 @@ use model::Machine;
 use rows::{Matrix, Row};
 
 // A place of the wire: the bytes of a frame.
+// Kept: an array with the length beside it, since tables are lent and of fixed size, with no heap.
 #[derive(Clone, Copy)]
 pub struct Slot {
     pub bytes: [u8; 194],
@@ -30,6 +31,7 @@ pub struct Entry<O> {
 // words has N × N × L × N places, by station, origin, sequence and speaker; votes and commits N × L × N each, by station,
 // proposal and speaker; kept N × N rows, by station and speaker; executed N × N × L entries, by station and position;
 // machines, counts and accused one for each station. What lies behind is never touched.
+// Kept: no model of its own, since a model's value cannot name the machine's `State`; so clauses say `contents` of tables.
 #[derive(Drop)]
 pub struct Tables<'a, M: Machine> {
     pub wire: &'a mut [Slot],

@@ -1,17 +1,18 @@
 -- Frames fit into the places of the wire.
-use Rattle.std.proofs.Common.{◌≡◌, ℕ, ◌*◌, ◌≤◌, List, [], ◌++◌, length, take, drop, Some, None, Ok, Err, Option, sym, refl, ap, ◌∙◌, mul-le-mul, arith}
+use Rattle.std.proofs.Common.{◌≡◌, ℕ, ◌*◌, ◌≤◌, List, [], ◌++◌, length, take, drop, Some, None, Ok, Err, Option, Result, sym, refl, ap, ◌∙◌, mul-le-mul, arith}
 use Rattle.frames.proofs.Headers.{heads}
 use Rattle.frames.proofs.Judging.{or_none}
 use Rattle.frames.proofs.Sending.{frame_long, sent, written_whole}
 use Rattle.frames.specs.Kinds.{head_fault, size, stations}
 use Rattle.frames.specs.Said.{Said}
-use Rattle.frames.specs.Writing.{faults_of, frame, kind_of, part_unfit, sender_of, sequence_of, unfit, written}
+use Rattle.frames.specs.Writing.{faults_of, frame, kind_of, part_unfit, sender_of, sequence_of, leaves, unfit, written}
 use Rattle.frames.specs.declared.kind.Kind.{Kind}
 use Rattle.frames.specs.declared.kind.Kind.TheVariants.{Request, Ack, Summary, Proposal, Prepare, Commit}
 use Rattle.model.specs.declared.fault.Fault.{Fault}
 use Rattle.rows.specs.Bits.{room}
 use Rattle.wire.specs.Slots.{framed, framed_if}
 use Rattle.std.proofs.lemmas.List.{take_all, take-append-le}
+use Rattle.std.specs.Result.{result_unwrap_or}
 
 square_small : (f : ℕ) → f ≤ 5 → room (stations f * stations f) ≤ 192
 square_small f h = let m : stations f * stations f ≤ 16 * 16 = mul-le-mul {n₂ = 16} {m₂ = 16} (omega arith) (omega arith) in omega arith
@@ -49,6 +50,11 @@ unwritten s None e u w =
 -- What is not written is no frame.
 pub slot_empty : (s : Said) (e : Fault) → Err e ≡ written s 194 → [] ≡ framed s
 slot_empty s e w = unwritten s (unfit s) e refl w
+
+-- A frame that is written into an empty place is there, and where none is written nothing is.
+pub slot_filled : (s : Said) (r : Result ℕ Fault) (before after : List ℕ) → r ≡ written s 194 → after ≡ leaves r (frame s) before → take (result_unwrap_or r 0) after ≡ framed s
+slot_filled s (Ok len) before after e a = slot_written s len before after e a
+slot_filled s (Err e) before after w a = slot_empty s e w
 
 -- Bytes that read are a frame, so they fit too.
 pub bytes_small : (s : Said) (bytes : List ℕ) → unfit s ≡ None → frame s ≡ bytes → length bytes ≤ 194

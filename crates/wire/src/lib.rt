@@ -9,7 +9,5 @@ mod showing;
 mod slots;
 mod speaking;
 
-pub use reading::frame_at;
-pub use showing::show;
+pub use places::Wire;
 pub use slots::slot;
-pub use speaking::sayable;

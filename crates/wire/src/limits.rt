@@ -12,12 +12,7 @@ use tables::Numbers;
 fn some_above(limit: u8, part: &[u8], n: usize) -> bool
     ensures { result ≡ some_above limit (entries part.now n) }
 {
-    for k in 0..n {
-        if entry(part, k) > limit {
-            return true;
-        }
-    }
-    false
+    (0..n).any(|k| entry(part, k) > limit)
 }
 
 // Whether the sequence, or an entry, of a frame exceeds the limit.
@@ -25,18 +20,13 @@ pub(crate) fn exceeds(limit: u8, frame: &Frame<'_>) -> bool
     ensures { result ≡ exceeds_in limit (said_of frame.now) }
 {
     let header = frame.header();
-    let n = 3 * header.faults as usize + 1;
+    let n = header.stations();
     match frame {
-        Frame::Request { .. } => header.sequence > limit,
-        Frame::Ack { .. } => header.sequence > limit,
+        Frame::Request { .. } | Frame::Ack { .. } => header.sequence > limit,
         Frame::Summary { row, .. } => some_above(limit, row, n),
-        Frame::Proposal { matrix, .. } => {
-            header.sequence > limit || some_above(limit, matrix, n * n)
-        }
-        Frame::Prepare { matrix, .. } => {
-            header.sequence > limit || some_above(limit, matrix, n * n)
-        }
-        Frame::Commit { matrix, .. } => {
+        Frame::Proposal { matrix, .. }
+        | Frame::Prepare { matrix, .. }
+        | Frame::Commit { matrix, .. } => {
             header.sequence > limit || some_above(limit, matrix, n * n)
         }
     }

@@ -2,38 +2,41 @@ ghost use Rattle.std.specs.Prelude.{◌≡◌, ◌≤◌, [], map, length, slice
 ghost use Rattle.tables.specs.Contents.{frame_of};
 ghost use Rattle.wire.specs.Wires.{on_wire};
 
-use tables::Slot;
+use tables::{Numbers, Slot};
+
+// The wire of a run as it is read: the numbers of the run, where the wire ends, and its places.
+#[derive(Clone, Copy)]
+pub struct Wire<'a> {
+    pub numbers: Numbers,
+    pub end: u16,
+    pub slots: &'a [Slot],
+}
 
 // The bytes of the frame that a place of the wire holds.
 pub(crate) fn bytes(slot: &Slot) -> &[u8]
     ensures { result.now ≡ frame_of slot.now }
 {
     let all = &slot.bytes[..];
-    let len = slot.len as usize;
-    &all[0..len]
+    &all[..slot.len as usize]
 }
 
-// The bytes of the frame at this place of the wire: none past the end.
-pub(crate) fn bytes_at(wire: &[Slot], place: usize) -> &[u8]
-    ensures { result.now ≡ slice_index_or (map frame_of wire.now) place [] }
-{
-    if place < wire.len() {
-        bytes(&wire[place])
-    } else {
-        &[]
-    }
-}
-
-// Whether this frame lies on a wire that ends at `end`.
-pub(crate) fn on_wire(end: u16, wire: &[Slot], frame: &[u8]) -> bool
-    ensures { result ≡ on_wire end (map frame_of wire.now) frame.now }
-{
-    for place in 0..end as usize {
-        if bytes_at(wire, place) == frame {
-            return true;
+impl<'a> Wire<'a> {
+    // The bytes of the frame at this place: none past the end.
+    pub(crate) fn bytes_at(self, place: usize) -> &'a [u8]
+        ensures { result.now ≡ slice_index_or (map frame_of self.entry.slots.now) place [] }
+    {
+        match self.slots.get(place) {
+            Some(slot) => bytes(slot),
+            None => &[],
         }
     }
-    false
+
+    // Whether this frame lies on the wire, below its end.
+    pub(crate) fn holds(self, frame: &[u8]) -> bool
+        ensures { result ≡ on_wire self.entry.end (map frame_of self.entry.slots.now) frame.now }
+    {
+        (0..self.end as usize).any(|place| self.bytes_at(place) == frame)
+    }
 }
 
 // A place of the wire with these bytes.
@@ -43,7 +46,7 @@ pub(crate) fn holding(bytes: &[u8]) -> Slot
 {
     let mut all = [0; 194];
     let len = bytes.len();
-    all[0..len].copy_from_slice(bytes);
+    all[..len].copy_from_slice(bytes);
     Slot {
         bytes: all,
         len: len as u8,

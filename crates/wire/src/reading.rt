@@ -6,30 +6,26 @@ ghost use Rattle.tables.specs.Plans.{plan_of};
 ghost use Rattle.wire.specs.Wires.{foreign as foreign_to, frame_at};
 
 use crate::limits::foreign;
-use crate::places::bytes_at;
+use crate::places::Wire;
 use frames::{Frame, read};
 use model::{Fault, Operation, Reason};
-use tables::{Numbers, Slot};
 
-// The frame at this place of a wire that ends at `end`.
-pub fn frame_at<'a, O: Operation + Drop>(
-    numbers: Numbers,
-    end: u16,
-    wire: &'a [Slot],
-    place: u32,
-) -> Result<Frame<'a>, Fault>
-    ensures means { answered result ≡ frame_at O.Operation.refused (plan_of numbers) end (map frame_of wire.now) place }
-    ensures sound { IfOk result Sound }
-    ensures ours { IfOk result (λ x. foreign_to (plan_of numbers) (said_of x) ≡ false) }
-    ensures whole { IfOk result (λ x. (unfit (said_of x) ≡ None) × (frame_saying (said_of x) ≡ slice_index_or (map frame_of wire.now) place [])) }
-    ensures parts { IfOk result (λ x. Borrows (drop 2 (slice_index_or (map frame_of wire.now) place [])) x) }
-{
-    if place >= end as u32 {
-        return Err(Fault::new(Reason::NoFrame, 0));
+impl<'a> Wire<'a> {
+    // The frame at this place, below the end.
+    pub fn frame_at<O: Operation + Drop>(self, place: u32) -> Result<Frame<'a>, Fault>
+        ensures means { answered result ≡ frame_at O.Operation.refused (plan_of self.entry.numbers) self.entry.end (map frame_of self.entry.slots.now) place }
+        ensures sound { IfOk result Sound }
+        ensures ours { IfOk result (λ x. foreign_to (plan_of self.entry.numbers) (said_of x) ≡ false) }
+        ensures whole { IfOk result (λ x. (unfit (said_of x) ≡ None) × (frame_saying (said_of x) ≡ slice_index_or (map frame_of self.entry.slots.now) place [])) }
+        ensures parts { IfOk result (λ x. Borrows (drop 2 (slice_index_or (map frame_of self.entry.slots.now) place [])) x) }
+    {
+        if place >= self.end as u32 {
+            return Err(Reason::NoFrame.into());
+        }
+        let frame = read::<O>(self.bytes_at(place as usize))?;
+        if foreign(self.numbers, &frame) {
+            return Err(Reason::NoFrame.into());
+        }
+        Ok(frame)
     }
-    let frame = read::<O>(bytes_at(wire, place as usize))?;
-    if foreign(numbers, &frame) {
-        return Err(Fault::new(Reason::NoFrame, 0));
-    }
-    Ok(frame)
 }

@@ -11,10 +11,7 @@ pub fn slot(sender: u8, faults: u8, message: &Message) -> Slot
     ensures { frame_of result ≡ framed (said_by sender faults message.now) }
 {
     let mut bytes = [0; 194];
-    let len = match write(sender, faults, message, &mut bytes) {
-        Ok(len) => len,
-        Err(_) => return Slot { bytes, len: 0 },
-    };
+    let len = write(sender, faults, message, &mut bytes).unwrap_or(0);
     Slot {
         bytes,
         len: len as u8,

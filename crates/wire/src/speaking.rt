@@ -6,9 +6,8 @@ ghost use Rattle.tables.specs.Refusing.{seen_as};
 ghost use Rattle.wire.specs.Wires.{sayable as sayable_on};
 ghost use Rattle.std.specs.Prelude.{◌≡◌, false, not, ◌||◌, map, ◌==◌};
 
-use crate::inventing::invented;
 use crate::limits::exceeds;
-use crate::places::holding;
+use crate::places::{Wire, holding};
 use frames::{Frame, read};
 use model::{Fault, Operation, Reason};
 use tables::{Numbers, Slot};
@@ -22,25 +21,21 @@ fn misnamed(numbers: Numbers, station: usize, frame: &Frame<'_>) -> bool
     header.faults != numbers.watch.faults || header.sender as usize != station
 }
 
-// The frame that a faulty station may add to a wire that ends at `end`, as a place of the wire holds it.
-pub fn sayable<O: Operation + Drop>(
-    numbers: Numbers,
-    end: u16,
-    wire: &[Slot],
-    station: usize,
-    bytes: &[u8],
-) -> Result<Slot, Fault>
-    ensures { seen_as frame_of result ≡ sayable_on O.Operation.refused (plan_of numbers) end (map frame_of wire.now) station bytes.now }
-{
-    let frame = read::<O>(bytes)?;
-    if misnamed(numbers, station, &frame) {
-        return Err(Fault::new(Reason::SpokenName, 0));
+impl Wire<'_> {
+    // The frame that a faulty station may add to the wire, as a place of the wire holds it.
+    pub fn sayable<O: Operation + Drop>(self, station: usize, bytes: &[u8]) -> Result<Slot, Fault>
+        ensures { seen_as frame_of result ≡ sayable_on O.Operation.refused (plan_of self.entry.numbers) self.entry.end (map frame_of self.entry.slots.now) station bytes.now }
+    {
+        let frame = read::<O>(bytes)?;
+        if misnamed(self.numbers, station, &frame) {
+            return Err(Reason::SpokenName.into());
+        }
+        if exceeds(self.numbers.watch.limit, &frame) {
+            return Err(Reason::SpokenExcess.into());
+        }
+        if self.invented(&frame) {
+            return Err(Reason::SpokenRow.into());
+        }
+        Ok(holding(bytes))
     }
-    if exceeds(numbers.watch.limit, &frame) {
-        return Err(Fault::new(Reason::SpokenExcess, 0));
-    }
-    if invented(numbers, end, wire, &frame) {
-        return Err(Fault::new(Reason::SpokenRow, 0));
-    }
-    Ok(holding(bytes))
 }

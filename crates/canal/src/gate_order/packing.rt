@@ -70,11 +70,7 @@ impl Word for GateOrder {
     ghost means = { said };
 
     fn same(&self, other: &Self) -> bool {
-        self.gate == other.gate
-            && self.opening == other.opening
-            && self.day == other.day
-            && self.minute == other.minute
-            && self.number == other.number
+        self == other
     }
 }
 
@@ -83,13 +79,13 @@ impl Operation for GateOrder {
 
     ghost refused = { refusal };
 
-    ghost fits = { first_of (Prim.search rules, Prim.grind (arith, Self.row.coded.inj)) };
+    ghost fits = { Prim.search rules };
 
-    ghost one = { first_of (Prim.search rules, Prim.grind (arith, Self.row.coded.inj)) };
+    ghost one = { Prim.search rules };
 
-    ghost apart = { first_of (Prim.search rules, Prim.grind (arith, Self.row.coded.inj)) };
+    ghost apart = { Prim.search rules };
 
-    ghost whole = { first_of (Prim.search rules, Prim.grind (arith, Self.row.coded.inj)) };
+    ghost whole = { Prim.search rules };
 
     // Unpacking what is packed gives an equal operation, and no other bits do.
     fn pack(&self) -> u64

@@ -76,10 +76,7 @@ impl Word for Transfer {
     ghost means = { said };
 
     fn same(&self, other: &Self) -> bool {
-        self.source == other.source
-            && self.target == other.target
-            && self.volume == other.volume
-            && self.number == other.number
+        self == other
     }
 }
 
@@ -88,13 +85,13 @@ impl Operation for Transfer {
 
     ghost refused = { refusal };
 
-    ghost fits = { first_of (Prim.search rules, Prim.grind (arith, Self.row.coded.inj)) };
+    ghost fits = { Prim.search rules };
 
-    ghost one = { first_of (Prim.search rules, Prim.grind (arith, Self.row.coded.inj)) };
+    ghost one = { Prim.search rules };
 
-    ghost apart = { first_of (Prim.search rules, Prim.grind (arith, Self.row.coded.inj)) };
+    ghost apart = { Prim.search rules };
 
-    ghost whole = { first_of (Prim.search rules, Prim.grind (arith, Self.row.coded.inj)) };
+    ghost whole = { Prim.search rules };
 
     // Unpacking what is packed gives an equal operation, and no other bits do.
     fn pack(&self) -> u64

@@ -1,5 +1,5 @@
 ghost use Rattle.std.specs.Prelude.{◌≡◌, ℕ};
-ghost use Rattle.gates.specs.Boards.{Board, earlier, means, moment, moved_by, new_board, number_of, unfit, verdict};
+ghost use Rattle.gates.specs.Boards.{Board, means, moment, moved_by, new_board, number_of, unfit, verdict};
 ghost use Rattle.calendar.specs.Calendar.{date_of};
 ghost use Rattle.canal.specs.GateOrders.{read, said};
 ghost use Rattle.canal.specs.Layout.{Made};
@@ -10,21 +10,15 @@ use calendar::Date;
 use canal::GateOrder;
 use model::{Fault, Machine, Reason};
 
-impl Moment {
-    fn of(order: &GateOrder) -> Moment
-        ensures { result ≡ moment (said order.now) }
-    {
+// The moment from which an order stands.
+impl From<&GateOrder> for Moment {
+    ghost from_gives = { λ order m. m ≡ moment (said order.now) };
+
+    fn from(order: &GateOrder) -> Moment {
         Moment {
             day: order.day,
             minute: order.minute,
         }
-    }
-
-    // Whether this moment is earlier: by the day, then by the minute.
-    fn earlier(self, than: Moment) -> bool
-        ensures { result ≡ earlier self than }
-    {
-        self.day < than.day || (self.day == than.day && self.minute < than.minute)
     }
 }
 
@@ -51,12 +45,7 @@ impl GateBoard {
     pub fn gate(&self, number: u8) -> Option<Gate>
         ensures { result ≡ slice_get (means self.now).gates number }
     {
-        let gate = number as usize;
-        if gate < self.fitted {
-            Some(self.gates[gate])
-        } else {
-            None
-        }
+        self.gates[..self.fitted].get(number as usize).copied()
     }
 
     // The date of a day of the board's year.
@@ -77,7 +66,7 @@ impl GateBoard {
             return GateCode::NoSuchDay;
         }
         match gate.last {
-            Some(last) if Moment::of(order).earlier(last) => GateCode::TooEarly,
+            Some(last) if Moment::from(order) < last => GateCode::TooEarly,
             _ => GateCode::Moved,
         }
     }
@@ -91,7 +80,7 @@ impl GateBoard {
             GateCode::Moved => {
                 let gate = Gate {
                     opening: order.opening,
-                    last: Some(Moment::of(order)),
+                    last: Some(order.into()),
                 };
                 self.gates[order.gate as usize] = gate;
                 GateCode::Moved

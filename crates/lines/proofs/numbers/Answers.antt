@@ -11,34 +11,34 @@ loop-i-init g c =
     let all : g.row.K - 0 ≡ g.row.K = omega arith in
     (length-replicate g.row.K 0, rw all (mapped_same (fields g.row.K _ c.args.text.now)))
 
-pub returns-in_err-value : goal.returns-in_err-value
-returns-in_err-value g c =
+pub returns-in_err-found : goal.returns-in_err-found
+returns-in_err-found g c =
     let i = c.loop-i.i in
     let k : g.row.K - i ≡ suc (g.row.K - (i + 1)) = omega arith in
     c.from_residual.ensures
-    ∙ stop (take i c.loop-i.values) (g.row.K - (i + 1)) (eqb i 0) c.loop-i.rest.now c.in_err-value.ensures
-    ∙ sym (c.loop-i.invariant.1 ∙ ap (λ n. option_map (λ others. take i c.loop-i.values ++ others) (fields n (eqb i 0) c.loop-i.rest.now)) k)
+    ∙ stop (take i c.loop-i.value-items) (g.row.K - (i + 1)) (eqb i 0) c.loop-i.rest.now c.in_err-found.ensures
+    ∙ sym (c.loop-i.invariant.1 ∙ ap (λ n. option_map (λ others. take i c.loop-i.value-items ++ others) (fields n (eqb i 0) c.loop-i.rest.now)) k)
 
 pub loop-i-preserved : goal.loop-i-preserved
 loop-i-preserved g c =
     let i = c.loop-i.i in
     let k : g.row.K - i ≡ suc (g.row.K - (i + 1)) = omega arith in
     let later : eqb (i + 1) 0 ≡ false = ne_eqb (i + 1) 0 (λ e. omega arith) in
-    let v = c.in_ok-value.value in
-    let rest = c.in_ok-value.more.now in
+    let v = c.in_ok-found.found in
+    let rest = c.in_ok-found.more.now in
     let next = fields (g.row.K - (i + 1)) false rest in (
-      length-set c.loop-i.values i v ∙ c.loop-i.invariant.0,
+      length-set c.loop-i.value-items i v ∙ c.loop-i.invariant.0,
       c.loop-i.invariant.1
-          ∙ ap (λ n. option_map (λ others. take i c.loop-i.values ++ others) (fields n (eqb i 0) c.loop-i.rest.now)) k
-          ∙ turn (take i c.loop-i.values) (g.row.K - (i + 1)) (eqb i 0) c.loop-i.rest.now v rest c.in_ok-value.ensures
-          ∙ ap (λ front. option_map (λ others. front ++ others) next) (sym (take_more_set c.loop-i.values i v (omega arith)))
-          ∙ ap (λ first. option_map (λ others. take (i + 1) (set c.loop-i.values i v) ++ others) (fields (g.row.K - (i + 1)) first rest)) (sym later),
+          ∙ ap (λ n. option_map (λ others. take i c.loop-i.value-items ++ others) (fields n (eqb i 0) c.loop-i.rest.now)) k
+          ∙ turn (take i c.loop-i.value-items) (g.row.K - (i + 1)) (eqb i 0) c.loop-i.rest.now v rest c.in_ok-found.ensures
+          ∙ ap (λ front. option_map (λ others. front ++ others) next) (sym (take_more_set c.loop-i.value-items i v (omega arith)))
+          ∙ ap (λ first. option_map (λ others. take (i + 1) (set c.loop-i.value-items i v) ++ others) (fields (g.row.K - (i + 1)) first rest)) (sym later),
     )
 
 pub returns-then-is_empty : goal.returns-then-is_empty
 returns-then-is_empty g c =
     let i = c.loop-i.i in
-    let values = c.loop-i.values in
+    let values = c.loop-i.value-items in
     let none : g.row.K - i ≡ 0 = omega arith in
     sym (c.loop-i.invariant.1
     ∙ ap (λ n. option_map (λ others. take i values ++ others) (fields n (eqb i 0) c.loop-i.rest.now)) none

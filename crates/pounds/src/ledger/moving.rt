@@ -46,24 +46,15 @@ impl PoundLedger {
     pub fn pound(&self, number: u8) -> Option<Pound>
         ensures { option_map level_of result ≡ slice_get (means self.now) number }
     {
-        let pound = number as usize;
-        if pound < self.fitted {
-            Some(self.pounds[pound])
-        } else {
-            None
-        }
+        self.pounds[..self.fitted].get(number as usize).copied()
     }
 
     // What the ledger answers to the transfer, and the two pounds as they will be.
     fn judge(&self, order: &Transfer) -> Result<Booking, PoundCode>
         ensures { Booked (means self.now) (said order.now) result }
     {
-        let Some(source) = self.pound(order.source) else {
-            return Err(PoundCode::NotFitted);
-        };
-        let Some(target) = self.pound(order.target) else {
-            return Err(PoundCode::NotFitted);
-        };
+        let source = self.pound(order.source).ok_or(PoundCode::NotFitted)?;
+        let target = self.pound(order.target).ok_or(PoundCode::NotFitted)?;
         if order.source == order.target {
             return Err(PoundCode::SamePound);
         }

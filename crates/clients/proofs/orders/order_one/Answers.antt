@@ -1,19 +1,14 @@
 use Rattle.clients.proofs.orders.order_one.Goals as goal
-use Rattle.runs.proofs.Extending.{begin, extend, finish}
+use Rattle.runs.proofs.Extending.{extend, finish}
 use Rattle.runs.specs.Perform.{placed, proposes, run_of, sent_as, submits, summarises}
-use Rattle.tables.proofs.Lengths.{same_lengths}
-use Rattle.tables.specs.Contents.{contents}
-use Rattle.tables.specs.Plans.{lengths_of, plan_of}
+use Rattle.tables.specs.Plans.{plan_of}
 
 pub returns : goal.returns
 returns g c =
     let bits = g.M.Op.Operation.bits in
     let means = g.M.Machine.means in
-    let t = c.args.t.now in
-    let n = c.args.numbers in
-    let fitted = c.in_ok-fitted.fitted in
-    let run = c.in-Ok.run' in
-    let t0 = c.open.new.t in
+    let run = c.in_ok-run.run' in
+    let t0 = c.begin.new.t in
     let r0 = run_of bits means run t0 in
     let r1 = run_of bits means c.submit.new.self c.submit.new.t in
     let r3 = run_of bits means c.hand_to_all-2.new.run c.hand_to_all-2.new.t in
@@ -27,7 +22,7 @@ returns g c =
     finish r9 (plan_of c.close.result.numbers) c.close.result.end c.close.result.last c.close.ensures.numbers c.close.ensures.end c.close.ensures.last
     (c.hand_to_all-5.ensures start
     (c.hand_to_all-4.ensures start
-    (extend (proposes n.2) sent_as c.propose.result r7 r8 c.propose.ensures
+    (extend (proposes c.args.setup.leader) sent_as c.propose.result r7 r8 c.propose.ensures
     (c.hand_to_all-3.ensures start
     (extend (summarises 2) placed c.summarise-3.result r5 r6 c.summarise-3.ensures
     (extend (summarises 1) placed c.summarise-2.result r4 r5 c.summarise-2.ensures
@@ -35,5 +30,4 @@ returns g c =
     (c.hand_to_all-2.ensures start
     (c.hand_to_all.ensures start
     (extend (submits 1 (bits c.args.u.now)) sent_as c.submit.result r0 r1 c.submit.ensures
-    (begin n.0 n.1 n.2 n.3 (lengths_of t) (lengths_of t) (plan_of fitted.numbers) (contents bits means t) (contents bits means t0) run c.in_ok-fitted.ensures
-    (same_lengths bits means t) c.in-Ok.ensures)))))))))))
+    c.in_ok-run.ensures))))))))))

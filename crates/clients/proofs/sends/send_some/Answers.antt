@@ -1,19 +1,14 @@
 use Rattle.clients.proofs.sends.send_some.Goals as goal
-use Rattle.runs.proofs.Extending.{begin, extend, finish}
+use Rattle.runs.proofs.Extending.{extend, finish}
 use Rattle.runs.specs.Perform.{placed, run_of, sent_as, speaks, submits, summarises}
-use Rattle.tables.proofs.Lengths.{same_lengths}
-use Rattle.tables.specs.Contents.{contents}
-use Rattle.tables.specs.Plans.{lengths_of, plan_of}
+use Rattle.tables.specs.Plans.{plan_of}
 
 pub returns : goal.returns
 returns g c =
     let bits = g.M.Op.Operation.bits in
     let means = g.M.Machine.means in
-    let t = c.args.t.now in
-    let n = c.args.numbers in
-    let fitted = c.in_ok-fitted.fitted in
-    let run = c.in-Ok.run' in
-    let t0 = c.open.new.t in
+    let run = c.in_ok-run.run' in
+    let t0 = c.begin.new.t in
     let r0 = run_of bits means run t0 in
     let r1 = run_of bits means c.submit.new.self c.submit.new.t in
     let r2 = run_of bits means c.submit-2.new.self c.submit-2.new.t in
@@ -25,5 +20,4 @@ returns g c =
     (extend (summarises 2) placed c.summarise.result r2 r3 c.summarise.ensures
     (extend (submits 1 u) sent_as c.submit-2.result r1 r2 c.submit-2.ensures
     (extend (submits 0 u) sent_as c.submit.result r0 r1 c.submit.ensures
-    (begin n.0 n.1 n.2 n.3 (lengths_of t) (lengths_of t) (plan_of fitted.numbers) (contents bits means t) (contents bits means t0) run c.in_ok-fitted.ensures
-    (same_lengths bits means t) c.in-Ok.ensures)))))
+    c.in_ok-run.ensures))))

@@ -1,27 +1,23 @@
-use Rattle.delivery.proofs.Said.{prepare_low, proposal_low}
+use Rattle.delivery.proofs.Said.{HoldsVote, voted}
 use Rattle.delivery.proofs.hearing.hear.Goals as goal
-use Rattle.rows.specs.Values.{matrix_of}
 use Rattle.tables.specs.Plans.{plan_of}
-use Rattle.std.proofs.Common.{rules}
+use Rattle.std.proofs.Common.{refl, sym, subst, inl, inr, ap, ◌∙◌}
 
 pub hear_vote-requires : goal.hear_vote-requires
 hear_vote-requires g c =
     let a = c.in-Proposal in
-    let m = c.matrix_in-matrix in
-    record {
-      ready = c.requires.ready;
-      speaker = search rules;
-      number = search rules;
-      matrix = (m.ensures.side, proposal_low (plan_of c.args.numbers) c.args.frame.now a.header a.matrix (matrix_of m.result) c.requires.ours m.ensures.means a.is);
-    }
+    let v = c.vote_in-in-Proposal in
+    let x = c.args.frame.now in
+    let e = c.header-header.ensures in
+    let holds : HoldsVote x a.matrix = elim a.is [ inl (h, is) ↦ subst (λ y. HoldsVote y a.matrix) (sym is) refl | inr (h, is) ↦ subst (λ y. HoldsVote y a.matrix) (sym is) refl ] in
+    voted (plan_of c.args.at.now.numbers) x a.matrix v.result c.requires.sound c.requires.ours holds
+    (v.ensures.number ∙ ap (λ h. h.sequence) e) (v.ensures.speaker ∙ ap (λ h. h.sender) e) v.ensures.side v.ensures.means
 
-pub hear_vote-requires-in-Prepare : goal.hear_vote-requires-in-Prepare
-hear_vote-requires-in-Prepare g c =
-    let a = c.in-Prepare in
-    let m = c.matrix_in-matrix-in-Prepare in
-    record {
-      ready = c.requires.ready;
-      speaker = search rules;
-      number = search rules;
-      matrix = (m.ensures.side, prepare_low (plan_of c.args.numbers) c.args.frame.now a.header a.matrix (matrix_of m.result) c.requires.ours m.ensures.means a.is);
-    }
+pub hear_commit-requires : goal.hear_commit-requires
+hear_commit-requires g c =
+    let a = c.in-Commit in
+    let v = c.vote_in in
+    let x = c.args.frame.now in
+    let e = c.header-header.ensures in
+    voted (plan_of c.args.at.now.numbers) x a.matrix v.result c.requires.sound c.requires.ours (subst (λ y. HoldsVote y a.matrix) (sym a.is) refl)
+    (v.ensures.number ∙ ap (λ h. h.sequence) e) (v.ensures.speaker ∙ ap (λ h. h.sender) e) v.ensures.side v.ensures.means

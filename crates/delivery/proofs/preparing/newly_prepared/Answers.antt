@@ -1,13 +1,17 @@
-use Rattle.delivery.proofs.Prepares.{newly_is}
+use Rattle.delivery.proofs.Prepares.{newly_is, newly_never}
 use Rattle.delivery.proofs.preparing.newly_prepared.Goals as goal
-use Rattle.model.specs.Quorums.{held}
-use Rattle.rows.specs.Values.{matrix_of}
 use Rattle.tables.specs.Plans.{plan_of}
-use Rattle.std.proofs.Common.{sym}
+use Rattle.std.proofs.Common.{sym, ◌∙◌, arith}
+
+pub returns-then-prepared : goal.returns-then-prepared
+returns-then-prepared g c =
+    newly_never (plan_of c.args.at.now.numbers) c.args.at.now.tables.now.votes.now c.places_read-places.result c.args.vote.now.matrix
+    c.args.at.now.index c.args.vote.now.number c.args.vote.now.speaker c.stations-n.result c.first_vote-from.result
+    c.stations-n.ensures c.first_vote-from.ensures.is (omega arith) c.places_read-places.ensures (sym c.prepared.ensures ∙ c.if-prepared.true)
 
 pub returns : goal.returns
-returns c =
-    newly_is (plan_of c.args.numbers) (held matrix_of c.args.votes.now) c.places_read-places.result c.args.matrix.now
-    c.args.station c.args.number c.args.speaker c.stations-n.result c.first_vote-from.result c.prepared-2.result
-    c.stations-n.ensures c.first_vote-from.ensures.is c.requires.stations.1 c.requires.low c.places_read-places.ensures
-    (sym c.if-prepared.ensures) c.prepared-2.ensures
+returns g c =
+    newly_is (plan_of c.args.at.now.numbers) c.args.at.now.tables.now.votes.now c.places_read-places.result c.args.vote.now.matrix
+    c.args.at.now.index c.args.vote.now.number c.args.vote.now.speaker c.stations-n.result c.first_vote-from.result
+    c.stations-n.ensures c.first_vote-from.ensures.is (omega arith) c.places_read-places.ensures c.prepared-2.result c.requires.speaker c.requires.low
+    (sym c.prepared.ensures ∙ c.if-prepared.false) c.prepared-2.ensures

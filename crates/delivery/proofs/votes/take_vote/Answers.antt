@@ -1,28 +1,25 @@
-use Rattle.delivery.proofs.Frames.{commit_fits, prepare_fits, vote_placed, vote_told}
+use Rattle.delivery.proofs.Frames.{vote_makes}
+use Rattle.delivery.proofs.Indices.{number_fits}
+use Rattle.delivery.proofs.Settling.{commit_fits}
 use Rattle.delivery.proofs.votes.take_vote.Goals as goal
-use Rattle.model.specs.Quorums.{held}
+use Rattle.model.specs.Quorums.{held, stations}
 use Rattle.rows.specs.Values.{matrix_of}
 use Rattle.std.proofs.lemmas.List.{length-map}
 use Rattle.tables.specs.Plans.{lengths_of, plan_of}
-use Rattle.std.proofs.Common.{arith}
+use Rattle.std.proofs.Common.{refl, arith}
 
-pub sent_if-one-requires : goal.sent_if-one-requires
-sent_if-one-requires g c =
-    prepare_fits c.args.station c.args.numbers.watch.faults c.args.number c.args.matrix (omega arith) (omega arith) c.requires.ready.known
-    c.requires.number.0 (omega arith) c.requires.matrix.0
-
-pub sent_if-next-requires : goal.sent_if-next-requires
-sent_if-next-requires g c =
-    commit_fits c.args.station c.args.numbers.watch.faults c.args.number c.args.matrix (omega arith) (omega arith) c.requires.ready.known
-    c.requires.number.0 (omega arith) c.requires.matrix.0
+pub sent-next-requires : goal.sent-next-requires
+sent-next-requires g c =
+    commit_fits c.args.at.now.index c.args.at.now.numbers.watch.faults c.args.vote.now.number c.args.vote.now.matrix c.newly_prepared.result c.then_some.result
+    (omega arith) (omega arith) (omega arith) c.requires.some (omega arith) c.requires.side c.then_some.ensures
 
 pub returns : goal.returns
 returns g c =
-    record {
-      tells =
-          vote_told g.M.Op.Operation.bits (plan_of c.args.numbers) (held matrix_of c.args.t.now.votes.now) c.args.matrix c.args.station c.args.number
-          c.args.speaker c.first_vote.result c.taken.result c.sent_if-one.result c.sent_if-next.result c.echoes.result c.newly_prepared-commits.result
-          c.taken.ensures.outcome c.taken.ensures.change c.taken.ensures.frames c.first_vote.ensures.is c.sent_if-one.ensures c.echoes.ensures
-          c.sent_if-next.ensures c.newly_prepared-commits.ensures (simp length-map (omega arith)) c.requires.speaker c.requires.matrix.1;
-      placed = vote_placed (lengths_of c.args.t.now) c.args.station _ c.args.matrix c.taken.result c.taken.ensures.change (omega arith) c.taken.ensures.ordered;
-    }
+    let n = stations c.args.at.now.numbers.watch.faults in
+    let within = number_fits n n refl (omega arith) (omega arith) c.args.at.now.index n c.args.at.now.numbers.watch.limit c.args.vote.now.number (omega arith) c.requires.some c.requires.short in
+    let e = c.taken.ensures in
+    vote_makes g.M.Op.Operation.bits (plan_of c.args.at.now.numbers) (lengths_of c.args.at.now.tables.now) (held matrix_of c.args.at.now.tables.now.votes.now)
+    c.args.vote.now.matrix c.args.at.now.index c.args.vote.now.number c.args.vote.now.speaker c.vote_place-place.result c.taken.result
+    c.sent-one.result c.sent-next.result c.then_some-echo.result c.then_some.result c.echoes.result c.newly_prepared.result e.outcome e.change e.frames e.ordered
+    c.vote_place-place.ensures.is (omega arith) c.sent-one.ensures c.then_some-echo.ensures c.echoes.ensures c.sent-next.ensures c.then_some.ensures c.newly_prepared.ensures
+    (simp length-map (omega (arith, within))) c.requires.speaker c.requires.low

@@ -1,20 +1,14 @@
-use Rattle.std.proofs.Common.{leb, sym, arith}
-use Rattle.std.proofs.lemmas.Bool.{le-leb, lt-leb}
+use Rattle.std.proofs.Common.{ℕ, Bool, leb, ◌∙◌, rules, arith}
+use Rattle.std.proofs.lemmas.Iterator.{YieldsList-from_range}
+use Rattle.std.proofs.lemmas.Iterator.Search.{all_from_yields_List}
+use borrow.Author.Tests.{tests}
 use Rattle.model.specs.Quorums.{stations}
 use Rattle.order.specs.Rows.{entry, read}
-use Rattle.order.proofs.Comparing.{every_more, every_fails}
+use Rattle.order.proofs.Ranges.{every_range}
 use Rattle.order.proofs.rows.none_smaller.Goals as goal
 
-pub returns-then-entry : goal.returns-then-entry
-returns-then-entry c =
-    let a = read c.args.watch.limit c.args.a.now in
-    let b = read c.args.watch.limit c.args.b.now in
-    sym (every_fails (λ o. leb (entry b o) (entry a o)) (stations c.args.watch.faults) c.loop-origin.origin (omega arith)
-    (lt-leb (entry b c.loop-origin.origin) (entry a c.loop-origin.origin) (omega arith)))
-
-pub loop-origin-preserved : goal.loop-origin-preserved
-loop-origin-preserved c =
-    let a = read c.args.watch.limit c.args.a.now in
-    let b = read c.args.watch.limit c.args.b.now in
-    every_more (λ o. leb (entry b o) (entry a o)) c.loop-origin.origin c.loop-origin.invariant
-    (le-leb (entry b c.loop-origin.origin) (entry a c.loop-origin.origin) (omega arith))
+pub returns : goal.returns
+returns c =
+    let n = stations c.args.watch.faults in
+    let test : ℕ → Bool = λ o. leb (entry (read c.args.watch.limit c.args.b.now) o) (entry (read c.args.watch.limit c.args.a.now) o) in
+    all_from_yields_List test _ _ _ c.all.ensures.ran (YieldsList-from_range 0 n n (cc) (omega arith)) (λ x b q k. search (rules, tests)) ∙ every_range test n

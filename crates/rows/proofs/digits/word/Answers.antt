@@ -33,8 +33,3 @@ loop-k-preserved c =
     ap (field_of 8 bs (8 * from)) more ∙ field-append 8 bs (8 * from) (8 * k) 8
     ∙ ap (λ p. field_of 8 bs (8 * from) (8 * k) * 256 + field_of 8 bs p 8) place in
     omega arith
-
-pub returns : goal.returns
-returns c =
-    let end : c.loop-k.k ≡ 8 = omega arith in
-    rw end at c.loop-k.invariant

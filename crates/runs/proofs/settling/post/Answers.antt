@@ -12,5 +12,5 @@ returns-in-Some c =
     let end = c.args.end in
     record {
       end = ap (λ f. end + length (frame_in f)) (sym w.is);
-      wire = map-set frame_of wire end w.slot ∙ ap (λ f. posted (map frame_of wire) end (frame_in f)) (sym w.is);
+      wire = ap (map frame_of) c.put.ensures ∙ map-set frame_of wire end w.slot ∙ ap (λ f. posted (map frame_of wire) end (frame_in f)) (sym w.is);
     }

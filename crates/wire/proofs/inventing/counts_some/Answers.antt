@@ -1,13 +1,12 @@
+use Rattle.std.proofs.Common.{ltb, ◌∙◌, rules}
 use Rattle.rows.specs.Values.{row_of}
-use Rattle.std.proofs.lemmas.List.{length-take}
-use Rattle.wire.proofs.Above.{none_above, some_above_lem}
+use Rattle.std.proofs.lemmas.Iterator.{YieldsList-from_slice}
+use Rattle.std.proofs.lemmas.Iterator.Search.{any_from_yields_List}
+use Rattle.wire.proofs.Above.{any_above}
 use Rattle.wire.proofs.inventing.counts_some.Goals as goal
-use Rattle.std.proofs.Common.{arith}
-
-pub returns-then-get-gt0 : goal.returns-then-get-gt0
-returns-then-get-gt0 c = some_above_lem 0 (row_of c.args.row.now) c.loop-k.k (omega arith)
+use borrow.Author.Tests.{tests}
 
 pub returns : goal.returns
 returns c =
-    let r = c.args.row.now in
-    none_above 0 (row_of r) (λ k l. c.loop-k.invariant k (omega (arith, length-take r.side r.cells)))
+    let row = row_of c.args.row.now in
+    any_from_yields_List (λ x. ltb 0 x) _ _ _ c.any.ensures.ran (YieldsList-from_slice row (search rules)) (λ x b q k. search (rules, tests)) ∙ any_above 0 row

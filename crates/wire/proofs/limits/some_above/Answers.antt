@@ -1,9 +1,15 @@
-use Rattle.wire.proofs.Above.{no_entry_above, some_entry_above}
+use Rattle.std.proofs.Common.{ℕ, Bool, ◌*◌, ltb, ◌∙◌, rules, arith}
+use Rattle.std.proofs.lemmas.Iterator.{YieldsList-from_range}
+use Rattle.std.proofs.lemmas.Iterator.Search.{any_from_yields_List}
+use Rattle.std.specs.List.{range_with_len}
+use Rattle.rows.specs.Bits.{field}
+use Rattle.wire.proofs.Above.{any_above_map}
 use Rattle.wire.proofs.limits.some_above.Goals as goal
-use Rattle.std.proofs.Common.{arith}
-
-pub returns-then-entry-limit : goal.returns-then-entry-limit
-returns-then-entry-limit c = some_entry_above c.args.limit c.args.part.now c.args.n c.loop-k.k (omega arith) (omega arith)
+use borrow.Author.Tests.{tests}
 
 pub returns : goal.returns
-returns c = no_entry_above c.args.limit c.args.part.now c.args.n (λ k l. c.loop-k.invariant k (omega arith))
+returns c =
+    let n = c.args.n in
+    let test : ℕ → Bool = λ k. ltb c.args.limit (field c.args.part.now (6 * k) 6) in
+    any_from_yields_List test _ _ _ c.any.ensures.ran (YieldsList-from_range 0 n n (cc) (omega arith)) (λ x b q k. search (rules, tests))
+    ∙ any_above_map c.args.limit (λ k. field c.args.part.now (6 * k) 6) (range_with_len 0 n)

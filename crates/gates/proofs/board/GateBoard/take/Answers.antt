@@ -8,6 +8,6 @@ returns-in-Moved c =
     record {
       answer = c.in-Moved.ensures;
       after =
-          moves c.args.self.now.leap c.args.self.now.fitted c.args.self.now.gates (said c.args.order.now) c.of.result
-          c.of.ensures (sym c.in-Moved.ensures);
+          moves c.args.self.now.leap c.args.self.now.fitted c.args.self.now.gates (said c.args.order.now) c.into.result
+          c.into.ensures (sym c.in-Moved.ensures);
     }

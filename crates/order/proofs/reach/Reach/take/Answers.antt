@@ -1,12 +1,11 @@
-use Rattle.std.proofs.Common.{◌≡◌, ◌-◌, max, sym, ap, ◌∙◌, arith}
+use Rattle.std.proofs.Common.{◌≡◌, max, option_and_then, rules, sym, ap, ◌∙◌}
 use Rattle.std.specs.List.{slice_get}
 use Rattle.model.specs.Quorums.{stations}
 use Rattle.order.specs.Columns.{column}
 use Rattle.order.specs.Orders.{added, after, total}
 use Rattle.order.specs.Reaches.{kept}
-use Rattle.order.proofs.Spans.{after_earlier, after_later, after_push, reach_push}
+use Rattle.order.proofs.Spans.{after_sub, after_push, reach_push}
 use Rattle.order.proofs.reach.Reach.take.Goals as goal
-use Rattle.order.proofs.reach.Reach.take.Goals.{then-k-ordered, else-k-ordered}
 
 pub returns : goal.returns
 returns c =
@@ -15,13 +14,9 @@ returns c =
     let b = kept c.args.self.now in
     let X = c.args.matrix.now in
     let k = c.args.k in
-    let answer : c.if-k-ordered.answer ≡ after (total (stations f) b) (added f limit b X) k =
-    elim c.if-k-ordered.branch [
-      | then-k-ordered w ↦ w.answer-is ∙ sym (after_earlier (total (stations f) b) (added f limit b X) k (omega arith))
-      | else-k-ordered w ↦
-          w.answer-is ∙ w.added_at-answer.ensures ∙ ap (λ m. slice_get (added f limit b X) (k - m)) c.ordered-ordered.ensures
-          ∙ sym (after_later (total (stations f) b) (added f limit b X) k (omega arith))
-    ]
+    let answer : c.and_then-answer.result ≡ after (total (stations f) b) (added f limit b X) k =
+    let h : c.and_then-answer.result ≡ option_and_then (λ m. slice_get (added f limit b X) m) c.checked_sub.result = search rules in
+    h ∙ after_sub c.ordered-ordered.result _ _ k (added f limit b X) c.ordered-ordered.ensures c.checked_sub.ensures
     in
     record {
       answer = answer;

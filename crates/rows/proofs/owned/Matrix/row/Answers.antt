@@ -1,29 +1,26 @@
-use Rattle.std.proofs.Common.{◌≡◌, ◌+◌, ◌-◌, ◌*◌, take, drop, replicate, sym, ap, ◌∙◌, arith}
-use Rattle.rows.proofs.Cells.{length_over, no_row, row_fits, row_whole, small_append, small_drop, small_take, small_zeros, square_fits}
+use Rattle.std.proofs.Common.{◌≡◌, ◌+◌, ◌-◌, ◌*◌, ◌≤◌, length, take, drop, sym, ap, ◌∙◌, arith}
+use Rattle.rows.proofs.Cells.{length_front, row_whole, small_drop, small_front, small_take}
 use Rattle.rows.proofs.owned.Matrix.row.Goals as goal
-use Rattle.std.proofs.lemmas.List.{take_at}
+use Rattle.std.proofs.lemmas.List.{length-take, take_at}
 
-pub returns-then-i-side : goal.returns-then-i-side
-returns-then-i-side c = sym (no_row c.args.self.now.side c.args.i c.args.self.now.cells c.if-i-side.true)
+pub invariant_of-result-clause-whole : goal.invariant_of-result-clause-whole
+invariant_of-result-clause-whole c = length_front c.args.self.now.side 16 c.copy_from_slice.new.self c.copy_from_slice.auto.self
 
-pub slice_bounds-copy_from_slice-end : goal.slice_bounds-copy_from_slice-end
-slice_bounds-copy_from_slice-end c =
-    omega (arith, row_fits c.args.i c.args.self.now.side c.if-i-side.false, square_fits c.args.self.now.side c.args.self.now.few)
-
-pub invariant_of-result-2 : goal.invariant_of-result-2
-invariant_of-result-2 c =
+pub invariant_of-result-clause-small : goal.invariant_of-result-clause-small
+invariant_of-result-clause-small c =
     let s = c.args.self.now.side in
-    let cells = c.args.self.now.cells in
-    let part = small_take (c.args.i * s + s - c.args.i * s) (drop (c.args.i * s) cells) (small_drop (c.args.i * s) cells c.args.self.now.small) in
-    let few = c.args.self.now.few in
-    let long = length_over 0 (s - 0) (replicate 16 0) c.copy_from_slice.new.self (omega arith) (omega arith) in
-    record { few = few; whole = long; small = rw c.copy_from_slice.ensures.after (small_append _ _ part (small_drop (s - 0) (replicate 16 0) (small_zeros 16))) }
+    let m = c.args.self.now.entries in
+    let from = c.args.i * s in
+    let part = small_take ((c.args.i + 1) * s - from) (drop from m.cells) (small_drop from m.cells m.small) in
+    rw c.copy_from_slice.ensures.after (small_front s 16 _ part)
 
 pub returns : goal.returns
 returns c =
     let s = c.args.self.now.side in
     let i = c.args.i in
-    let cells = c.args.self.now.cells in
-    let same : i * s + s - i * s ≡ s = omega arith in
-    take_at c.copy_from_slice.new.self _ s (omega arith) ∙ c.copy_from_slice.ensures.after ∙ ap (λ n. take n (drop (i * s) cells)) same
+    let cells = c.args.self.now.entries.cells in
+    let same : (i + 1) * s - i * s ≡ s = omega arith in
+    let few : s ≤ 16 = c.args.self.now.few in
+    let long : length c.copy_from_slice.new.self ≡ s = c.copy_from_slice.auto.self ∙ simp length-take (omega arith) in
+    take_at c.copy_from_slice.new.self _ s long ∙ c.copy_from_slice.ensures.after ∙ ap (λ n. take n (drop (i * s) cells)) same
     ∙ sym (row_whole s i cells c.if-i-side.false)

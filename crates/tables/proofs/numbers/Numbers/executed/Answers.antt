@@ -1,5 +1,6 @@
-use Rattle.std.proofs.Common.{◌≡◌, ◌+◌, ◌*◌, min, leb, map, get_or, sym, ap, ◌∙◌, arith}
+use Rattle.std.proofs.Common.{◌≡◌, rules, ◌+◌, ◌*◌, min, leb, map, get_or, sym, ap, ◌∙◌, arith}
 use Rattle.tables.proofs.Items.{read_present}
+use Rattle.tables.proofs.Readable.{readable}
 use Rattle.tables.proofs.numbers.Numbers.executed.Goals as goal
 use Rattle.tables.specs.Contents.{done_of, none}
 use Rattle.tables.specs.Plans.{lengths_of, plan_of}
@@ -16,9 +17,13 @@ returns g c =
     let k = c.args.position in
     let done = done_of g.M.Op.Operation.bits in
     let entries = map (option_map done) t.executed.now in
+    let l = c.args.self.watch.limit in
+    let at : c.in_ok-at.at.index ≡ i = search rules in
+    let read = readable g.M.Op.Operation.bits g.M.Machine.means t p i c.in_ok-at.at.index (search rules) in
     let by : c.executed_by.result ≡ executed_by p t.counts.now i =
-    c.executed_by.ensures ∙ ap (λ n. min (get_or t.counts.now i none).executed (n * c.args.self.watch.limit)) c.stations.ensures in
+    c.executed_by.ensures ∙ ap (λ j. min (get_or t.counts.now j none).executed (c.stations.result * l)) at ∙ ap (λ n. min (get_or t.counts.now i none).executed (n * l)) c.stations.ensures in
     read_present done c.present.result t.executed.now _ c.present.ensures
-    ∙ ap (λ n. joined (slice_get entries (i * (n * c.args.self.watch.limit) + k))) c.stations.ensures
+    ∙ ap (λ j. joined (slice_get entries (j * (c.stations.result * l) + k))) at
+    ∙ ap (λ n. joined (slice_get entries (i * (n * l) + k))) c.stations.ensures
     ∙ sym (cond-false (leb (executed_by p t.counts.now i) k) _ _ (lt-leb (executed_by p t.counts.now i) k (omega arith)))
-    ∙ sym (cond-false (unread p (lengths_of t) i) _ _ (sym c.unread.ensures.is ∙ c.if-unread.false))
+    ∙ sym (cond-false (unread p (lengths_of t) i) _ _ read)

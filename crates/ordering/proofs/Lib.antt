@@ -1,6 +1,0 @@
-pub mod Certified
-pub mod Clearing
-pub mod Indices
-pub mod Items
-pub mod Opened
-pub mod Sending

@@ -1,6 +1,0 @@
-use Rattle.ordering.proofs.clear.empty.Given as goal
-use Rattle.ordering.specs.Cleared.{front}
-use Rattle.std.proofs.Common.{◌≡◌, None}
-
-abbrev pub invariant-loop-i : goal.invariant-loop-i
-invariant-loop-i g l = l.places ≡ front l.i None l.initial.places

@@ -1,6 +1,0 @@
-pub mod Calls
-pub mod Cleared
-pub mod Contents
-pub mod Opening
-pub mod Plans
-pub mod Reading

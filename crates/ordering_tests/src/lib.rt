@@ -1,5 +1,0 @@
-// Tests of runs over gate orders.
-#![tactic(auto)]
-
-#[cfg(test)]
-mod life;
