@@ -3,6 +3,8 @@ use rows::{Matrix, Row};
 use tables::Slot;
 
 // What a delivery changes at a station: nothing, one place, one kept row, or the station's accusation set.
+// Kept: `Nothing` among the changes, since an `Option` would wrap each of the five others wherever it is made or read, and
+// the list of all six is closed.
 #[derive(Drop)]
 pub enum Change<O> {
     Nothing,

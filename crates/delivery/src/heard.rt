@@ -1,6 +1,7 @@
 use rows::Matrix;
 
 // A speaker's word on an origin's sequence, by its packed form.
+// Kept: that it is one of the run stands by name in the calls (`Worded`), since its type does not know the run's numbers.
 #[derive(Clone, Copy)]
 pub(crate) struct Spoken {
     pub origin: u8,
@@ -10,6 +11,7 @@ pub(crate) struct Spoken {
 }
 
 // A speaker's matrix on a number: a first vote, or a commit.
+// Kept: that it is one of the run stands by name in the calls (`Voted`), since its type does not know the run's numbers.
 #[derive(Clone, Copy)]
 pub(crate) struct Vote {
     pub number: u8,

@@ -10,6 +10,9 @@ use model::{Machine, Watch};
 use tables::Station;
 
 // Where the places of a number begin, in a row of numbers.
+// Kept: the range of the number as a `requires` of its own, since no type of a number knows the length of its watch; and
+// places that are computed, since the tables of a run are lent as flat slices; and of its own, beside `first_place` of
+// `tables`, since a public function may not ask that numbers are within ranges.
 fn places_of(watch: Watch, row: usize, number: u8) -> usize
     requires row { row < 256 }
     requires number { (1 ≤ number) × (number ≤ watch.limit) }
@@ -32,6 +35,7 @@ pub(crate) fn row_place(watch: Watch, station: usize, speaker: u8) -> usize
 }
 
 // Where the places of a number begin at a station, among the first votes or the commits.
+// Kept: the range of the number as a `requires` of its own, since no type of a number knows the length of its watch.
 pub(crate) fn first_vote(watch: Watch, station: usize, number: u8) -> usize
     requires station { station < stations watch.faults }
     requires number { (1 ≤ number) × (number ≤ watch.limit) }

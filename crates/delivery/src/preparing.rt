@@ -21,6 +21,7 @@ fn places_read(votes: &[Option<Matrix>], limit: u8) -> [Option<Matrix>; 16]
     requires { length votes.now ≤ 16 }
     ensures { held matrix_of (take (length votes.now) result) ≡ held (capped_at limit) (held matrix_of votes.now) }
 {
+    // Kept: the places by number, since of a zipped `&mut` the check knows nothing of what stands behind the last.
     let mut places = [None; 16];
     for (k, place) in places[..votes.len()].iter_mut().enumerate() {
         *place = capped_at(votes, k, limit);

@@ -10,7 +10,7 @@ use crate::outcome::Outcome;
 use crate::places::row_place;
 use crate::sending::{quiet, settled};
 use model::{Machine, Watch};
-use order::{Standing, compare};
+use order::compare;
 use rows::Row;
 use tables::Station;
 
@@ -18,11 +18,7 @@ use tables::Station;
 fn rank(watch: Watch, row: &Row, kept: &Row) -> Outcome
     ensures { result ≡ ranks (standing (stations watch.faults) (read watch.limit (row_of row.now)) (read watch.limit (row_of kept.now))) }
 {
-    match compare(watch, row.as_slice(), kept.as_slice()) {
-        Standing::Newer => Outcome::Taken,
-        Standing::Known => Outcome::Known,
-        Standing::Inconsistent => Outcome::TwoFaced,
-    }
+    compare(watch, row.as_slice(), kept.as_slice()).into()
 }
 
 // How a row ranks beside the one that is kept at this place.

@@ -29,10 +29,7 @@ fn board_codes(rt: HostRuntime) -> Result<(), Fail> {
             <GateBoard as Machine>::apply(&mut common, &order),
             in_common
         );
-        let stood = match leap.gate(order.gate) {
-            Some(gate) => gate.opening,
-            None => 0,
-        };
+        let stood = leap.gate(order.gate).map_or(0, |gate| gate.opening);
         assert_eq!(rt; stood, stands);
     }
     Ok(())
@@ -93,10 +90,7 @@ fn ledger_codes(rt: HostRuntime) -> Result<(), Fail> {
 }
 
 fn volume_of(ledger: &PoundLedger, pound: u8) -> u32 {
-    match ledger.pound(pound) {
-        Some(pound) => pound.volume,
-        None => 0,
-    }
+    ledger.pound(pound).map_or(0, |pound| pound.volume)
 }
 
 #[test]
@@ -146,8 +140,5 @@ fn dates(rt: HostRuntime) {
 }
 
 fn pair(date: Option<Date>) -> (u8, u8) {
-    match date {
-        Some(date) => (date.month, date.day),
-        None => (0, 0),
-    }
+    date.map_or((0, 0), |date| (date.month, date.day))
 }

@@ -4,10 +4,7 @@ use std::test::Fail;
 
 // A refusal's number and place.
 fn refusal<T: Drop>(r: Result<T, Fault>) -> Option<(u8, u16)> {
-    match r {
-        Ok(_) => None,
-        Err(e) => Some((e.reason.number(), e.place)),
-    }
+    r.err().map(|e| (e.reason.number(), e.place))
 }
 
 // The edges of each field's range, from both sides.

@@ -66,7 +66,6 @@ impl Header {
 
     // How many bytes the body of a frame of this kind has.
     pub(crate) fn size(self, kind: Kind) -> usize
-        requires { self.faults ≤ 5 }
         ensures { result ≡ body_size kind self.faults }
     {
         let n = self.stations();
@@ -79,6 +78,7 @@ impl Header {
     }
 
     // The number that the 16 bits of the header write.
+    // Kept: the ranges as clauses, since a header is a plain value that `check` refuses, and its type has any number.
     pub(crate) fn number(self, kind: Kind) -> u16
         requires low { (self.sender < 16) × (self.faults ≤ 5) }
         requires short { self.sequence < 64 }

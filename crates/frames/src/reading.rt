@@ -45,6 +45,7 @@ fn check_ack<O: Operation + Drop>(header: Header, body: &[u8]) -> Result<(), Fau
 }
 
 // Whether the fields of a body of this kind are sound.
+// Kept: the range as a clause, since a header is a plain value that `check` refuses, and its type has any number.
 fn check_fields<O: Operation + Drop>(kind: Kind, header: Header, body: &[u8]) -> Result<(), Fault>
     requires { header.faults ≤ 5 }
     ensures { result ≡ checked (part_fault O.Operation.refused kind header.faults body.now) }

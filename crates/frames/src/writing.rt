@@ -71,6 +71,7 @@ impl Message {
     }
 
     // Fills `to` with the body that says this.
+    // Kept: the range as a clause, since a header is a plain value that `check` refuses, and its type has any number.
     #[tactic(auto, using(crate::proofs::Bodies::word_bytes_lem, crate::proofs::Sending::fills_ack))]
     fn fill(&self, header: Header, to: &mut [u8])
         requires few { header.faults ≤ 5 }

@@ -445,10 +445,9 @@ fn unwritten(
     number: u8,
     place: u16,
 ) -> bool {
-    match write(sender, faults, message, to) {
-        Ok(_) => false,
-        Err(e) => e.reason.number() == number && e.place == place && untouched(to),
-    }
+    write(sender, faults, message, to).is_err_and(|e| e.reason.number() == number
+        && e.place == place
+        && untouched(to))
 }
 
 // Each kind has its number, and no other number has a kind.

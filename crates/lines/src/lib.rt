@@ -42,7 +42,7 @@ fn number(text: &[u8]) -> Option<(u32, &[u8])>
 }
 
 // The number at the front of the text: the first of a line, or another one after a single space; and what follows it.
-// Kept: a flag, since the space is all that tells the first number from the others, and the choice has to be one call.
+// Kept: a flag, for what it says (that no space comes before) has no value beside it, and the loop has one call for all.
 fn field(text: &[u8], first: bool) -> Option<(u32, &[u8])>
     ensures { option_map (λ p. (p.0, p.1.now)) result ≡ field_at first text.now }
 {

@@ -181,9 +181,6 @@ less set (suc j) h =
 pub names_fits : (set j : ℕ) → Names set j → 2 ^ j ≤ set
 names_fits set j m = (less set j m).fits
 
-pub parted_le : (set j : ℕ) → parted set j ≤ set
-parted_le set j = elim (cases_Bool (named set j)) [ inl m ↦ rw m (omega arith) | inr m ↦ rw m (omega arith) ]
-
 pub parted_out : (set j : ℕ) → named (parted set j) j ≡ false
 parted_out set j = elim (cases_Bool (named set j)) [ inl m ↦ rw m (less set j m).out | inr m ↦ rw m m ]
 

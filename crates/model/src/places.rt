@@ -15,7 +15,7 @@ fn holds<W: Word>(place: &Option<W>, word: &W) -> bool
 fn backers<W: Word>(places: &[Option<W>], word: &W) -> u16
     ensures { Backers (held W.Word.means places.now) (W.Word.means word.now) result }
 {
-    // Kept: a fold would carry the loop's invariant as a clause of its closure, and read no plainer.
+    // Kept: a loop, since a fold would say in a clause of its closure what its set holds so far, and be no plainer.
     let mut set = 0;
     for (j, place) in places.iter().enumerate() {
         if holds(place, word) {

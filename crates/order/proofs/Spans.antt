@@ -9,9 +9,6 @@ use Rattle.order.specs.Columns.{Matrix, column}
 use Rattle.order.specs.Orders.{key, reach, span, each, added, raised, order_after, order, total, after, found}
 use Rattle.order.specs.declared.key.Key.{Key}
 
-pub total-more : (g : ℕ → ℕ) (n : ℕ) → total (n + 1) g ≡ total n g + g n
-total-more g n = rw add-one refl
-
 pub total_same : (g h : ℕ → ℕ) (n : ℕ) → ((o : ℕ) → o < n → g o ≡ h o) → total n g ≡ total n h
 total_same g h zero e = refl
 total_same g h (suc n) e = ap₂ (λ a b. a + b) (total_same g h n (λ o l. e o (omega arith))) (e n (omega arith))

@@ -40,7 +40,7 @@ impl Reach {
     fn added_at(&self, watch: Watch, matrix: &[u8], position: u16) -> Option<Key>
         ensures { result ≡ slice_get (added watch.faults watch.limit (kept self.now) matrix.now) position }
     {
-        // Kept: a `try_fold` would carry the loop's invariant as a clause of its closure, and read no plainer.
+        // Kept: a loop, since a `try_fold` would say in a clause of its closure what is left so far, and be no plainer.
         let n = watch.stations();
         let mut left = position;
         for origin in 0..n {
@@ -90,6 +90,7 @@ pub fn kth(watch: Watch, matrices: &[[u8; 256]], k: u16) -> Option<Key>
     ensures laws { OrderLaws }
     ensures answer { result ≡ slice_get (order_of watch.faults watch.limit matrices.now) k }
 {
+    // Kept: a loop, since the closure of a `find_map` would change the reach that it captures.
     let mut reach = Reach::start();
     for matrix in matrices {
         if let Some(key) = reach.take(watch, matrix, k) {

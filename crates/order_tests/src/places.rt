@@ -65,18 +65,10 @@ fn ordered_of_sixteen(rt: HostRuntime) {
 #[test]
 fn longest_runs(rt: HostRuntime) -> Result<(), Fail> {
     let places = [U, U, U, None, V, V, None, V, U, V, V, V, U, U, U, U];
-    match Watch::new(1, 63) {
-        Ok(watch) => {
-            assert_eq!(rt; unbroken(watch, &places, 0), 2);
-            assert_eq!(rt; unbroken(watch, &places, 3), 0);
-        }
-        Err(_) => return Err(Fail::new("a watch of 63")),
-    }
-    match Watch::new(1, 1) {
-        Ok(watch) => {
-            assert_eq!(rt; unbroken(watch, &places, 0), 1);
-            Ok(())
-        },
-        Err(_) => Err(Fail::new("a watch of 1")),
-    }
+    let watch = Watch::new(1, 63).map_err(|_| Fail::new("a watch of 63"))?;
+    assert_eq!(rt; unbroken(watch, &places, 0), 2);
+    assert_eq!(rt; unbroken(watch, &places, 3), 0);
+    let short = Watch::new(1, 1).map_err(|_| Fail::new("a watch of 1"))?;
+    assert_eq!(rt; unbroken(short, &places, 0), 1);
+    Ok(())
 }

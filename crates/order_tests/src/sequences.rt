@@ -4,10 +4,7 @@ use std::test::Fail;
 
 // What stands at this position, as origin and sequence; 99 where nothing does.
 fn at(watch: Watch, matrices: &[[u8; 256]], k: u16) -> (u8, u8) {
-    match kth(watch, matrices, k) {
-        Some(key) => (key.origin, key.sequence),
-        None => (99, 99),
-    }
+    kth(watch, matrices, k).map_or((99, 99), |key| (key.origin, key.sequence))
 }
 
 fn first_column(a: u8, b: u8, c: u8, d: u8) -> [u8; 16] {
@@ -15,10 +12,7 @@ fn first_column(a: u8, b: u8, c: u8, d: u8) -> [u8; 16] {
 }
 
 fn watch_of(f: u32, length: u32) -> Result<Watch, Fail> {
-    match Watch::new(f, length) {
-        Ok(watch) => Ok(watch),
-        Err(_) => Err(Fail::new("no such watch")),
-    }
+    Watch::new(f, length).map_err(|_| Fail::new("no such watch"))
 }
 
 #[test]
@@ -89,10 +83,8 @@ fn one_matrix_after_the_other(rt: HostRuntime) -> Result<(), Fail> {
     let mut reach = Reach::start();
     assert!(rt; reach.take(watch, &valued(1, 1), 2).is_none());
     assert_eq!(rt; reach.ordered(watch), 2);
-    match reach.take(watch, &valued(2, 1), 2) {
-        Some(key) => assert!(rt; key.origin == 0 && key.sequence == 2),
-        None => return Err(Fail::new("the third operation")),
-    }
+    let third = reach.take(watch, &valued(2, 1), 2);
+    assert!(rt; third.is_some_and(|key| key.origin == 0 && key.sequence == 2));
     assert!(rt; reach.take(watch, &valued(1, 0), 2).is_none());
     assert!(rt; reach.of(0) == 2 && reach.of(3) == 1 && reach.of(16) == 0);
     assert_eq!(rt; reach.ordered(watch), 3);

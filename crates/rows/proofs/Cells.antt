@@ -3,10 +3,10 @@ use Rattle.rows.proofs.Repack.{field_below}
 use Rattle.rows.specs.Bits.{Small, field_of, repacked}
 use Rattle.rows.specs.Caps.{capped_at}
 use Rattle.rows.specs.Values.{placed, row_in}
-use Rattle.std.proofs.lemmas.Nat.{mul-le, mul-lt}
+use Rattle.std.proofs.lemmas.Nat.{mul-le}
 use Rattle.std.proofs.lemmas.List.FromFn.{length-map-range_with_len, get_or-map-range_with_len}
 use Rattle.std.proofs.lemmas.List.{drop-take, get_or-drop, get_or_past, length-append, length-drop, length-replicate, length-take, places, same_lists, take-take}
-use Rattle.std.proofs.lemmas.Bool.{cases_lt, cases_order}
+use Rattle.std.proofs.lemmas.Bool.{cases_lt}
 use borrow.Rule.Slice.PartMut.{put_mid}
 
 -- Lists of small entries stay such.
@@ -45,13 +45,6 @@ row_fits i s h =
     let n : i + 1 ≤ s = omega arith in
     let m : s ≤ s = omega arith in
     omega (arith, add-mul i 1 s, mul-le (i + 1) s s s n m)
-
-pub side_of_square : (a b : ℕ) → a * a ≡ b * b → a ≡ b
-side_of_square a b e =
-    ⊎_elim (λ (h : a ≡ b). h) (λ r. ⊎_elim
-    (λ (h : a < b). absurd (omega (arith, mul-lt a a b b h h)))
-    (λ (h : b < a). absurd (omega (arith, mul-lt b b a a h h))) r)
-    (cases_order a b)
 
 pub row_whole : (s i : ℕ) (xs : List ℕ) → i < s → row_in s (take (s * s) xs) i ≡ take s (drop (i * s) xs)
 row_whole s i xs h =

@@ -47,7 +47,8 @@ pub fn entry(part: &[u8], k: usize) -> u8
 pub fn word(bytes: &[u8], from: u8) -> u64
     ensures { result ≡ field bytes.now (8 * from) 64 }
 {
-    // Kept: a fold is no plainer, since no invariant bounds what its step has so far.
+    // Kept: `u64::from_be_bytes` would ask for eight bytes copied first, with zeros where the part ends; and a fold would
+    // say in a clause of its closure how large its number is so far.
     let mut all = 0;
     for k in 0..8 {
         all = all * 256 + at(bytes, from as usize + k) as u64;

@@ -59,7 +59,7 @@ impl<const MOST: usize> Entries<MOST> {
     }
 
     // Writes the bytes that hold the entries into the front of `to`, if there is room for them.
-    // Kept: yes or no, as in `set`.
+    // Kept: yes or no, since that it was done is all that there is to say.
     pub fn pack(&self, to: &mut [u8]) -> bool
         ensures answer { result ≡ nat_le (room_of self.now.count) (length to.old) }
         ensures means { to.new ≡ (if result then packed self.now.count (entries_of self.now) ++ drop (room_of self.now.count) to.old else to.old) }

@@ -46,7 +46,7 @@ impl Matrix {
     }
 
     // Puts a row of the matrix's side into the place of row i, if there is such a row.
-    // Kept: yes or no, as in `Entries::set`.
+    // Kept: yes or no, since that it was done is all that there is to say.
     pub fn put(&mut self, i: usize, row: &Row) -> bool
         ensures answer { result ≡ (nat_lt i self.old.side && row.now.count == self.old.side) }
         ensures side { self.new.side ≡ self.old.side }
@@ -73,7 +73,7 @@ impl Matrix {
     }
 
     // Writes the bytes that hold the entries into the front of `to`, if there is room for them.
-    // Kept: yes or no, as in `Entries::set`.
+    // Kept: yes or no, since that it was done is all that there is to say.
     pub fn pack(&self, to: &mut [u8]) -> bool
         ensures answer { result ≡ nat_le (room (self.now.side * self.now.side)) (length to.old) }
         ensures means { to.new ≡ (if result then packed (self.now.side * self.now.side) (matrix_of self.now) ++ drop (room (self.now.side * self.now.side)) to.old else to.old) }
@@ -82,7 +82,7 @@ impl Matrix {
     }
 
     // Makes entry j of row i this value, if there is such an entry and the value is below 64.
-    // Kept: yes or no, as in `Entries::set`.
+    // Kept: yes or no, since that it was done is all that there is to say.
     pub fn set(&mut self, i: usize, j: usize, value: u8) -> bool
         ensures answer { result ≡ (nat_lt i self.old.side && (nat_lt j self.old.side && nat_lt value 64)) }
         ensures side { self.new.side ≡ self.old.side }

@@ -27,7 +27,7 @@ pub struct Open {
 
 // A run that was open.
 // Kept: a type of plain numbers beside `Open`, and not a wrapper of it, since the project asks for three moved types of plain
-// numbers; the two calls that both have are one line each.
+// numbers; the one call that both have, `numbers`, is a line.
 #[derive(Drop)]
 pub struct Closed {
     pub(crate) numbers: Numbers,

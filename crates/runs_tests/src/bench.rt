@@ -103,6 +103,7 @@ impl Sizes {
 
 impl Sizes {
     // One element fewer in one of the nine tables.
+    // Kept: a number for the table, since the test that says so goes over all nine.
     pub fn less(self, which: u8) -> Sizes {
         let mut n = self;
         match which {
@@ -184,7 +185,7 @@ pub fn even(side: u8, value: u8) -> Row {
 }
 
 // Makes the item at this place this one, if there is such a place.
-pub fn put<T: Copy>(items: &mut [T], at: usize, value: T) {
+pub fn put<T: Drop>(items: &mut [T], at: usize, value: T) {
     if let Some(item) = items.get_mut(at) {
         *item = value;
     }
@@ -193,9 +194,7 @@ pub fn put<T: Copy>(items: &mut [T], at: usize, value: T) {
 // Makes the place hold the operation, if there is such a place.
 fn put_word<O: Operation + Drop>(words: &mut [Option<O>], at: usize, u: &O) {
     if let Ok(copy) = O::unpack(u.pack()) {
-        if at < words.len() {
-            words[at] = Some(copy);
-        }
+        put(words, at, Some(copy));
     }
 }
 
@@ -221,6 +220,7 @@ pub fn holding(bytes: &[u8]) -> Slot {
 }
 
 // The setup with these numbers: f, the watch length, the leader and the set of the faulty stations.
+// Kept: four numbers in a row, here and in what calls this, since a case of a test is one line of numbers.
 fn setup(numbers: (u32, u32, u32, u32)) -> Setup {
     let (faults, length, leader, faulty) = numbers;
     Setup {
@@ -232,11 +232,11 @@ fn setup(numbers: (u32, u32, u32, u32)) -> Setup {
 }
 
 // The number of the refusal that fitting answers, or 0.
+// Kept: a number, since the cases are lists of plain numbers with what is to be answered, and 0 is no reason's.
 fn fit<M: Machine>(t: &Tables<'_, M>, numbers: (u32, u32, u32, u32)) -> u8 {
-    match Fitted::new(setup(numbers), t) {
-        Ok(_) => 0,
-        Err(e) => e.reason.number(),
-    }
+    Fitted::new(setup(numbers), t)
+        .err()
+        .map_or(0, |e| e.reason.number())
 }
 
 // How many of these numbers, one after the other, are answered as is wanted for tables of these lengths, before one is not.

@@ -10,6 +10,8 @@ use tables::{Counts, Tables};
 // A show has the bytes that are to be seen, and perhaps the length of the buffer. By hand, a set of speakers comes to hold
 // the first operation of the script, or the second, at a station, for an origin and a sequence; a kept row becomes one of
 // so many entries of one value; a station's submitted count becomes this; a place of the wire holds these bytes.
+// Kept: an enum of steps, since a script is a list in which each step stands beside what is to come of it, and closures of
+// different types in one list would be boxed.
 #[derive(Clone, Copy)]
 pub enum Step<'a> {
     Submit(u32),
@@ -53,13 +55,8 @@ fn placed(r: Result<u16, Fault>) -> Answer {
 
 // Whether the buffer begins with these bytes, so many, and holds 0xAA from there on.
 fn begins(to: &[u8], len: usize, bytes: &[u8]) -> bool {
-    for (i, b) in to.iter().enumerate() {
-        let wanted = if i < bytes.len() { bytes[i] } else { 0xAA };
-        if *b != wanted {
-            return false;
-        }
-    }
-    len == bytes.len()
+    let others = to.get(bytes.len()..).unwrap_or(&[]);
+    len == bytes.len() && to.starts_with(bytes) && others.iter().all(|b| *b == 0xAA)
 }
 
 // Shows the frame at a place in this buffer, which holds 0xAA.
@@ -172,6 +169,7 @@ pub fn play<M: Machine>(
     us: (&M::Op, &M::Op),
     steps: &[(Step<'_>, Answer)],
 ) -> usize {
+    // Kept: a loop, since a closure would change the run that it captures.
     for (i, (step, wanted)) in steps.iter().enumerate() {
         if !goes(run, t, us, *step, *wanted) {
             return i;

@@ -10,6 +10,7 @@ use tables::Tables;
 
 // How many submissions of the station are numbered 1, 2 and so on, and take the first places, before one is not.
 fn submissions<M: Machine>(run: &mut Open, t: &mut Tables<'_, M>, station: u32, u: &M::Op) -> u8 {
+    // Kept: a loop, since a closure would change the run that it captures.
     for k in 0..255 {
         match run.submit(t, station, u) {
             Ok(sent) if sent.sequence == k + 1 && sent.place == k as u16 => {}
@@ -35,9 +36,7 @@ fn proposal_of_63() -> [u8; 194] {
     let mut bytes = [0; 194];
     bytes[0] = 0x9F;
     bytes[1] = 0x41;
-    for k in 182..194 {
-        bytes[k] = 0xFF;
-    }
+    bytes[182..].fill(0xFF);
     bytes
 }
 
@@ -94,6 +93,7 @@ fn sixteen_stations(rt: HostRuntime) -> Result<(), Fail> {
 
 // How many summaries take the first places before one is refused, and with what number.
 fn summaries<M: Machine>(run: &mut Open, t: &mut Tables<'_, M>) -> (u32, u8) {
+    // Kept: a loop, since a closure would change the run that it captures.
     for place in 0..70000 {
         match run.summarise(t, place % 4) {
             Ok(at) if at as u32 == place => {}

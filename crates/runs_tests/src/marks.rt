@@ -7,73 +7,74 @@ fn mix(h: u64, x: u64) -> u64 {
     (h.rotate_left(7) ^ x).wrapping_mul(0x9E37_79B9_7F4A_7C15)
 }
 
-fn of_bytes(mut h: u64, bytes: &[u8]) -> u64 {
-    for b in bytes {
-        h = mix(h, *b as u64);
-    }
-    h
+// The number after these items too, each of which the call mixes in.
+fn of_all<T, F: Fn(u64, &T) -> u64>(h: u64, items: &[T], of_one: F) -> u64
+    requires { F.IsAlwaysCallable of_one }
+{
+    items.iter().fold(h, of_one)
 }
 
-pub fn of_wire(mut h: u64, wire: &[Slot]) -> u64 {
-    for slot in wire {
-        h = mix(of_bytes(h, &slot.bytes), slot.len as u64);
-    }
-    h
+fn of_bytes(h: u64, bytes: &[u8]) -> u64 {
+    of_all(h, bytes, |h, b| mix(h, *b as u64))
 }
 
-pub fn of_words<O: Operation>(mut h: u64, words: &[Option<O>]) -> u64 {
-    for word in words {
-        let x = match word {
-            Some(u) => u.pack(),
-            None => 1,
-        };
-        h = mix(h, x);
-    }
-    h
+pub fn of_wire(h: u64, wire: &[Slot]) -> u64 {
+    of_all(
+        h,
+        wire,
+        |h, slot| mix(of_bytes(h, &slot.bytes), slot.len as u64),
+    )
 }
 
-pub fn of_matrices(mut h: u64, matrices: &[Option<Matrix>]) -> u64 {
-    for matrix in matrices {
-        h = match matrix {
-            Some(m) => mix(of_bytes(h, &m.entries.cells), m.side as u64),
-            None => mix(h, 99),
-        };
-    }
-    h
+pub fn of_words<O: Operation>(h: u64, words: &[Option<O>]) -> u64 {
+    of_all(
+        h,
+        words,
+        |h, word| mix(h, word.as_ref().map_or(1, |u| u.pack())),
+    )
 }
 
-pub fn of_rows(mut h: u64, rows: &[Row]) -> u64 {
-    for row in rows {
-        h = mix(of_bytes(h, &row.cells), row.count as u64);
-    }
-    h
+fn of_matrix(h: u64, matrix: &Matrix) -> u64 {
+    mix(of_bytes(h, &matrix.entries.cells), matrix.side as u64)
 }
 
-pub fn of_entries<O: Operation>(mut h: u64, entries: &[Option<Entry<O>>]) -> u64 {
-    for entry in entries {
-        h = match entry {
-            Some(e) => mix(
-                mix(mix(h, e.origin as u64), e.sequence as u64),
-                e.operation.pack(),
-            ),
-            None => mix(h, 1),
-        };
-    }
-    h
+pub fn of_matrices(h: u64, matrices: &[Option<Matrix>]) -> u64 {
+    of_all(h, matrices, |h, matrix| match matrix {
+        Some(m) => of_matrix(h, m),
+        None => mix(h, 99),
+    })
 }
 
-pub fn of_counts(mut h: u64, counts: &[Counts]) -> u64 {
-    for c in counts {
-        h = mix(mix(h, c.submitted as u64), c.executed as u64);
-    }
-    h
+pub fn of_rows(h: u64, rows: &[Row]) -> u64 {
+    of_all(
+        h,
+        rows,
+        |h, row| mix(of_bytes(h, &row.cells), row.count as u64),
+    )
 }
 
-pub fn of_sets(mut h: u64, sets: &[u16]) -> u64 {
-    for set in sets {
-        h = mix(h, *set as u64);
-    }
-    h
+fn of_entry<O: Operation>(h: u64, entry: &Entry<O>) -> u64 {
+    let h = mix(mix(h, entry.origin as u64), entry.sequence as u64);
+    mix(h, entry.operation.pack())
+}
+
+pub fn of_entries<O: Operation>(h: u64, entries: &[Option<Entry<O>>]) -> u64 {
+    of_all(h, entries, |h, entry| match entry {
+        Some(e) => of_entry(h, e),
+        None => mix(h, 1),
+    })
+}
+
+pub fn of_counts(h: u64, counts: &[Counts]) -> u64 {
+    of_all(
+        h,
+        counts,
+        |h, c| mix(mix(h, c.submitted as u64), c.executed as u64),
+    )
+}
+
+pub fn of_sets(h: u64, sets: &[u16]) -> u64 {
+    of_all(h, sets, |h, set| mix(h, *set as u64))
 }
 
 // All tables but the machines.

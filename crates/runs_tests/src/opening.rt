@@ -41,13 +41,11 @@ fn declined(rt: HostRuntime) -> Result<(), Fail> {
     for which in 0..9 {
         run = handed_back(&rt, rt.alloc(), run, n.less(which), &board)?;
     }
-    match run.open(&mut t, &board) {
-        Ok(open) => {
-            assert_eq!(rt; open.numbers().accused(&t, 0), Some(0));
-            Ok(())
-        },
-        Err(_) => Err(Fail::new("not opened")),
-    }
+    let open = run
+        .open(&mut t, &board)
+        .map_err(|_| Fail::new("not opened"))?;
+    assert_eq!(rt; open.numbers().accused(&t, 0), Some(0));
+    Ok(())
 }
 
 // How many of these steps go as is wanted on other tables, of these lengths.
@@ -101,10 +99,9 @@ fn surplus(rt: HostRuntime) -> Result<(), Fail> {
     for k in 0..8 {
         hold(t.words, 16 * k, 0xFFFF, &order);
     }
-    let mut run = match fitted.open(&mut t, &board) {
-        Ok(run) => run,
-        Err(_) => return Err(Fail::new("not opened")),
-    };
+    let mut run = fitted
+        .open(&mut t, &board)
+        .map_err(|_| Fail::new("not opened"))?;
     let steps = [
         (Step::Summarise(2), Answer::At(0)),
         (Step::Show(0, b"\x64\x40\x00\x00\x00"), Answer::Seen),
@@ -119,14 +116,11 @@ fn surplus(rt: HostRuntime) -> Result<(), Fail> {
         steps.len()
     );
     assert!(rt; bench.behind(n) == before);
-    match bench.machines.pop() {
-        Some(last) => {
-            assert!(rt; last.gate(39).is_some());
-            Ok(())
-        },
-        None => {
-            assert!(rt; false);
-            Ok(())
-        },
-    }
+    assert!(rt;
+        bench
+            .machines
+            .pop()
+            .is_some_and(|last| last.gate(39).is_some())
+    );
+    Ok(())
 }

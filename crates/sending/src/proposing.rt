@@ -17,27 +17,27 @@ use rows::{Matrix, Row};
 use tables::{Numbers, Slot, Snapshot, Station};
 use wire::slot;
 
-// Entry o of the row that station i keeps of station j, as it is read.
-fn kept_entry(numbers: Numbers, table: &[Row], i: usize, j: usize, o: usize) -> u8
-    requires places { stations numbers.watch.faults * stations numbers.watch.faults ≤ length table.now }
-    requires stations { (i < stations numbers.watch.faults) × (j < stations numbers.watch.faults) }
-    ensures is { result ≡ kept_entry (plan_of numbers) (map row_of table.now) i j o }
-    ensures few { result ≤ numbers.watch.limit }
+// Entry o of the row that the station keeps of station j, as it is read.
+fn kept_entry<M: Machine>(at: &Station<'_, '_, M>, j: usize, o: usize) -> u8
+    requires { j < stations at.now.numbers.watch.faults }
+    ensures is { result ≡ kept_entry (plan_of at.now.numbers) (map row_of at.now.tables.now.kept.now) at.now.index j o }
+    ensures few { result ≤ at.now.numbers.watch.limit }
 {
-    let n = numbers.watch.stations() as usize;
-    table[i * n + j].get(o).min(numbers.watch.limit)
+    let watch = at.numbers.watch;
+    let n = watch.stations() as usize;
+    let t = at.tables;
+    let row = t.kept[at.index * n + j];
+    row.get(o).min(watch.limit)
 }
 
-// The rows that station i keeps.
-fn kept_rows(numbers: Numbers, table: &[Row], i: usize) -> Matrix
-    requires places { stations numbers.watch.faults * stations numbers.watch.faults ≤ length table.now }
-    requires station { i < stations numbers.watch.faults }
-    ensures { matrix_of result ≡ kept_rows (plan_of numbers) (map row_of table.now) i }
+// The rows that the station keeps.
+fn kept_rows<M: Machine>(at: &Station<'_, '_, M>) -> Matrix
+    ensures { matrix_of result ≡ kept_rows (plan_of at.now.numbers) (map row_of at.now.tables.now.kept.now) at.now.index }
 {
-    let n = numbers.watch.stations() as usize;
+    let n = at.numbers.watch.stations() as usize;
     Matrix {
         side: n as u8,
-        entries: gathered(n * n, |k| kept_entry(numbers, table, i, k / n, k % n)),
+        entries: gathered(n * n, |k| kept_entry(at, k / n, k % n)),
     }
 }
 
@@ -53,6 +53,8 @@ fn proposal<M: Machine>(at: &Station<'_, '_, M>, sequence: u8, matrix: Matrix) -
 }
 
 // The number of the station's next proposal, if it can be sent.
+// Kept: the values that it reads, each by name, since a `Snapshot` and a `Station` each have numbers and tables of their own,
+// which every such call would have to show to be the same.
 fn next_number(numbers: Numbers, end: u16, last: u8, i: usize) -> Result<u8, Fault>
     ensures is { result ≡ number_by (plan_of numbers) end last i }
     ensures fits { IfOk result (λ q. (end < numbers.wire) × ((1 ≤ q) × (q ≤ numbers.watch.limit))) }
@@ -79,7 +81,7 @@ pub fn to_propose<M: Machine>(run: &Snapshot<'_, '_, M>, station: u32) -> Result
     let at = numbers.correct(t, station)?;
     let i = at.index;
     let sequence = next_number(numbers, run.end, run.last, i)?;
-    let matrix = kept_rows(numbers, t.kept, i);
+    let matrix = kept_rows(&at);
     Ok(Numbered {
         sequence,
         slot: proposal(&at, sequence, matrix),

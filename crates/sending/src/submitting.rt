@@ -22,6 +22,8 @@ fn submitted_by(counts: &[Counts], station: usize, limit: u8) -> u8
 }
 
 // The number of the station's next request, if it can be sent.
+// Kept: the values that it reads, each by name, since a `Snapshot` and a `Station` each have numbers and tables of their own,
+// which every such call would have to show to be the same.
 fn next_sequence(numbers: Numbers, end: u16, counts: &[Counts], i: usize) -> Result<u8, Fault>
     requires { i < length counts.now }
     ensures is { result ≡ sequence_by (plan_of numbers) end counts.now i }

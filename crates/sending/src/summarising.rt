@@ -18,25 +18,25 @@ use tables::{Numbers, Slot, Snapshot, Station};
 use wire::slot;
 
 // The longest unbroken run of the origin's sequences, from 1, that have a certificate at the station.
-fn certified_run<O: Operation>(numbers: Numbers, words: &[Option<O>], i: usize, origin: usize) -> u8
-    requires places { word_places (stations numbers.watch.faults) numbers.watch.limit ≤ length words.now }
-    requires stations { (i < stations numbers.watch.faults) × (origin < stations numbers.watch.faults) }
-    ensures is { result ≡ certified_run (plan_of numbers) (held O.Operation.bits words.now) i origin }
-    ensures few { result ≤ numbers.watch.limit }
+fn certified_run<M: Machine>(at: &Station<'_, '_, M>, origin: usize) -> u8
+    requires { origin < stations at.now.numbers.watch.faults }
+    ensures is { result ≡ certified_run (plan_of at.now.numbers) (held M.Op.Operation.bits at.now.tables.now.words.now) at.now.index origin }
+    ensures few { result ≤ at.now.numbers.watch.limit }
 {
-    let n = numbers.watch.stations() as usize;
-    let from = (i * n + origin) * numbers.watch.limit as usize * n;
-    unbroken(numbers.watch, &words[from..], origin)
+    let watch = at.numbers.watch;
+    let n = watch.stations() as usize;
+    let t = at.tables;
+    let from = (at.index * n + origin) * watch.limit as usize * n;
+    unbroken(watch, &t.words[from..], origin)
 }
 
 // The station's row: for each origin, how far its sequences have certificates there.
-fn row_at<O: Operation>(numbers: Numbers, words: &[Option<O>], i: usize) -> Row
-    requires places { word_places (stations numbers.watch.faults) numbers.watch.limit ≤ length words.now }
-    requires station { i < stations numbers.watch.faults }
-    ensures { row_of result ≡ row_at (plan_of numbers) (held O.Operation.bits words.now) i }
+fn row_at<M: Machine>(at: &Station<'_, '_, M>) -> Row
+    ensures is { row_of result ≡ row_at (plan_of at.now.numbers) (held M.Op.Operation.bits at.now.tables.now.words.now) at.now.index }
+    ensures long { length (row_of result) ≡ stations at.now.numbers.watch.faults }
 {
-    let n = numbers.watch.stations() as usize;
-    gathered(n, |origin| certified_run(numbers, words, i, origin))
+    let n = at.numbers.watch.stations() as usize;
+    gathered(n, |origin| certified_run(at, origin))
 }
 
 // The frame of the station's summary.
@@ -62,6 +62,6 @@ pub fn to_summarise<M: Machine>(run: &Snapshot<'_, '_, M>, station: u32) -> Resu
     if run.end >= numbers.wire {
         return Err(Reason::WireFull.into());
     }
-    let row = row_at(numbers, t.words, at.index);
+    let row = row_at(&at);
     Ok(summary(&at, row))
 }

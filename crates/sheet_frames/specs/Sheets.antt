@@ -3,7 +3,7 @@ use Rattle.std.specs.Prelude.{ℕ, List, Some, None, Ok, Err, Option, Result, sl
 use Rattle.canal.specs.GateOrders.{Order, order, said, wrong}
 use Rattle.lines.specs.Numbers.{numbers_of}
 use Rattle.model.specs.declared.fault.Fault.{Fault}
-use Rattle.sheet_frames.specs.declared.line.Entry.{Entry}
+use Rattle.sheet_frames.specs.declared.line.Submission.{Submission}
 
 -- An order with the station that is to submit it, the refusal of numbers that make no order, or neither.
 pub data Meant : Type 0 where
@@ -11,7 +11,7 @@ pub data Meant : Type 0 where
   refused : (fault : Fault) → Meant
   bad : Meant
 
-abbrev pub meant_by : Option (Result Entry Fault) → Meant
+abbrev pub meant_by : Option (Result Submission Fault) → Meant
 meant_by (Some (Ok x)) = ordered x.station (said x.order)
 meant_by (Some (Err e)) = refused e
 meant_by None = bad

@@ -4,7 +4,7 @@ ghost use Rattle.runs.specs.Perform.{run_of};
 ghost use Rattle.sheet_frames.specs.Entering.{Enters, on_line};
 ghost use Rattle.sheet_frames.specs.Sheets.{line_of};
 
-use crate::line::{Entry, read_line};
+use crate::line::{Submission, read_line};
 use canal::GateOrder;
 use gates::GateBoard;
 use model::Fault;
@@ -20,7 +20,7 @@ pub fn enter(
     ensures { Enters (on_line (line_of text.now) (run_of (λ u. packed (said u)) means run.old t.old)) result (run_of (λ u. packed (said u)) means run.old t.old) (run_of (λ u. packed (said u)) means run.new t.new) }
 {
     match read_line(text)? {
-        Ok(Entry { station, order }) => Some(run.submit(t, station, &order)),
+        Ok(Submission { station, order }) => Some(run.submit(t, station, &order)),
         Err(fault) => Some(Err(fault)),
     }
 }

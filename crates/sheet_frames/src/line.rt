@@ -6,18 +6,18 @@ use model::Fault;
 
 // An order, and the station that is to submit it.
 #[derive(Clone, Copy, PartialEq, Eq, Debug)]
-pub struct Entry {
+pub struct Submission {
     pub station: u32,
     pub order: GateOrder,
 }
 
 // What the line holds: six numbers, the first of which is the station's, if they make an order; nothing for any other line.
-pub fn read_line(text: &[u8]) -> Option<Result<Entry, Fault>>
+pub fn read_line(text: &[u8]) -> Option<Result<Submission, Fault>>
     ensures { meant_by result ≡ line_of text.now }
 {
     let [station, gate, opening, day, minute, number] = lines::numbers::<6>(text)?;
     match GateOrder::new(gate, opening, day, minute, number) {
-        Ok(order) => Some(Ok(Entry { station, order })),
+        Ok(order) => Some(Ok(Submission { station, order })),
         Err(fault) => Some(Err(fault)),
     }
 }

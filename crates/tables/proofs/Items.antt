@@ -27,7 +27,3 @@ joined_map f (x ∷ xs) (suc i) = joined_map f xs i
 pub read_present : {X Y : Type 0} (f : X → Y) (o : Option (Bor X)) (xs : List (Option X)) (i : ℕ) → option_map (λ x. x.now) o ≡ joined (slice_get xs i)
     → option_map (λ r. f r.now) o ≡ joined (slice_get (map (option_map f) xs) i)
 read_present f o xs i e = behind f o ∙ ap (option_map f) e ∙ joined_map f xs i
-
--- What lies in a place that is there.
-pub joined_at : {X : Type 0} (xs : List (Option X)) (i : ℕ) (place : Bor (Option X)) (o : Option X) → IsItemAt xs i (Some place) → o ≡ place.now → o ≡ joined (slice_get xs i)
-joined_at xs i place o h e = e ∙ ap joined (item_at xs i (Some place) h)

@@ -72,6 +72,7 @@ impl Numbers {
 }
 
 // Where the places of an origin's sequence begin at a station.
+// Kept: of its own, beside `places_of` of `delivery`, since a public function may not ask that numbers are within ranges.
 // Kept: the range of the sequence as a `requires` of its own, since no type of a number knows the length of its watch.
 fn first_place(watch: Watch, station: usize, origin: u32, sequence: u32) -> usize
     requires stations { (station < stations watch.faults) × (origin < stations watch.faults) }
@@ -107,6 +108,7 @@ fn executed_by(counts: &[Counts], station: usize, most: usize) -> usize
 }
 
 // What is present at this place, if anything is.
+// Kept: beside `word_at` of `model`, which speaks of words by what they mean, and an entry is no word.
 fn present<T>(items: &[Option<T>], place: usize) -> Option<&T>
     ensures { option_map (λ x. x.now) result ≡ joined (slice_get items.now place) }
 {

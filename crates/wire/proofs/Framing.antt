@@ -55,7 +55,3 @@ slot_empty s e w = unwritten s (unfit s) e refl w
 pub slot_filled : (s : Said) (r : Result ℕ Fault) (before after : List ℕ) → r ≡ written s 194 → after ≡ leaves r (frame s) before → take (result_unwrap_or r 0) after ≡ framed s
 slot_filled s (Ok len) before after e a = slot_written s len before after e a
 slot_filled s (Err e) before after w a = slot_empty s e w
-
--- Bytes that read are a frame, so they fit too.
-pub bytes_small : (s : Said) (bytes : List ℕ) → unfit s ≡ None → frame s ≡ bytes → length bytes ≤ 194
-bytes_small s bytes none e = omega (arith, frame_small s none, ap length e)

@@ -25,6 +25,3 @@ row_long s k cells l few whole =
     let all = row_fits k s l in
     let small = square_fits s few in
     ap length (row_whole s k cells l) ∙ length-take-le s (drop (k * s) cells) (omega (arith, length-drop (k * s) cells))
-
-pub row_has : (s n k : ℕ) (cells row : List ℕ) → row ≡ row_in s (take (s * s) cells) k → s ≡ n → k < n → s ≤ 16 → length cells ≡ 256 → length row ≡ n
-row_has s n k cells row r e l few whole = ap length r ∙ row_long s k cells (omega arith) few whole ∙ e

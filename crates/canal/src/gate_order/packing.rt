@@ -3,7 +3,7 @@ ghost use Rattle.canal.specs.Transfers.{refusal as others};
 ghost use Rattle.model.specs.Words.{Unpacked};
 ghost use Rattle.std.specs.Prelude.{◌≡◌, IfOk};
 ghost use Rattle.canal.specs.Layout.{Made, Unique};
-ghost use Rattle.std.proofs.Common.{rules, arith};
+ghost use Rattle.std.proofs.Common.{rules};
 
 use crate::gate_order::GateOrder;
 use crate::layout::{Field, NUMBER, TAG};

@@ -3,7 +3,7 @@ ghost use Rattle.model.specs.Words.{Unpacked};
 ghost use Rattle.std.specs.Prelude.{◌≡◌, [], ◌∷◌, IfOk};
 ghost use Rattle.canal.specs.Layout.{Made, Unique, bad};
 ghost use Rattle.canal.specs.Transfers.{Move, fields, move, packed, read, refusal, said, wrong};
-ghost use Rattle.std.proofs.Common.{rules, arith};
+ghost use Rattle.std.proofs.Common.{rules};
 
 use crate::layout::{Field, NUMBER, TAG};
 use crate::transfer::Transfer;
