@@ -133,7 +133,7 @@ impl<M: Machine + Drop> Bench<M> {
             bytes: [0xDD; 194],
             len: 194,
         })?;
-        self.words.push(None)?;
+        self.words.push(M::Op::unpack(u.pack()).ok())?;
         self.votes.push(Some(Matrix::zero(3)))?;
         self.commits.push(Some(Matrix::zero(5)))?;
         self.kept.push(Row::zero(7))?;

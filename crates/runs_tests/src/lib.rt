@@ -12,3 +12,5 @@ mod life;
 pub mod marks;
 #[cfg(test)]
 mod opening;
+#[cfg(test)]
+mod reading;

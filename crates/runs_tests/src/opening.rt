@@ -89,10 +89,10 @@ fn shortened(rt: HostRuntime) -> Result<(), Fail> {
 fn surplus(rt: HostRuntime) -> Result<(), Fail> {
     let board = GateBoard::new(12, true)?;
     let order = GateOrder::new(5, 1200, 366, 1439, 1)?;
-    let mut bench = Bench::new(rt.alloc(), Sizes::of(1, 2, 1), &board)?;
+    let mut bench = Bench::new(rt.alloc(), Sizes::of(1, 2, 4), &board)?;
     let fitted = fitted((1, 2, 0, 8), &bench.lend())?;
     bench.lengthen(&GateBoard::new(40, true)?, order)?;
-    let n = Sizes::of(1, 2, 1);
+    let n = Sizes::of(1, 2, 4);
     let before = bench.behind(n);
     let mut t = bench.lend();
     // words that summaries would show, were they not cleared
@@ -105,11 +105,14 @@ fn surplus(rt: HostRuntime) -> Result<(), Fail> {
     let steps = [
         (Step::Summarise(2), Answer::At(0)),
         (Step::Show(0, b"\x64\x40\x00\x00\x00"), Answer::Seen),
+        (Step::Submit(2), Answer::Sent(1, 1)),
+        (Step::Propose(0), Answer::Sent(1, 2)),
+        (Step::Speak(3, b"\x66\x40\x00\x00\x00"), Answer::At(3)),
         (Step::Summarise(2), Answer::No(27)),
         (Step::Submit(2), Answer::No(27)),
         (Step::Propose(0), Answer::No(27)),
         (Step::Speak(3, b"\x66\x40\x00\x00\x00"), Answer::No(27)),
-        (Step::Show(1, b""), Answer::No(10)),
+        (Step::Show(4, b""), Answer::No(10)),
     ];
     assert_eq!(rt;
         play(&mut run, &mut t, (&order, &order), &steps),
