@@ -1,11 +1,11 @@
-use Rattle.std.proofs.Common.{◌≡◌, ℕ, zero, suc, ◌+◌, ◌-◌, ◌*◌, ◌<◌, ◌≤◌, min, List, [], ◌∷◌, ◌++◌, length, take, drop, replicate, ap, ◌∙◌, ⊎_elim, add-mul, arith, rules}
+use Rattle.std.proofs.Common.{◌≡◌, ℕ, zero, suc, ◌+◌, ◌-◌, ◌*◌, ◌<◌, ◌≤◌, min, List, [], ◌∷◌, ◌++◌, length, take, drop, replicate, get_or, ap, ◌∙◌, ⊎_elim, add-mul, arith, rules}
 use Rattle.rows.proofs.Repack.{field_below}
 use Rattle.rows.specs.Bits.{Small, field_of, repacked}
 use Rattle.rows.specs.Caps.{capped_at}
 use Rattle.rows.specs.Values.{placed, row_in}
 use Rattle.std.proofs.lemmas.Nat.{mul-le}
 use Rattle.std.proofs.lemmas.List.FromFn.{length-map-range_with_len, get_or-map-range_with_len}
-use Rattle.std.proofs.lemmas.List.{drop-take, get_or-drop, get_or_past, length-append, length-drop, length-replicate, length-take, places, same_lists, take-take}
+use Rattle.std.proofs.lemmas.List.{drop-take, get_or-drop, get_or-take, get_or_past, length-append, length-drop, length-replicate, length-take, places, same_lists, take-take}
 use Rattle.std.proofs.lemmas.Bool.{cases_lt}
 use borrow.Rule.Slice.PartMut.{put_mid}
 
@@ -45,6 +45,11 @@ row_fits i s h =
     let n : i + 1 ≤ s = omega arith in
     let m : s ≤ s = omega arith in
     omega (arith, add-mul i 1 s, mul-le (i + 1) s s s n m)
+
+pub cell_at : (s i j : ℕ) (xs : List ℕ) → i < s → j < s → get_or (row_in s (take (s * s) xs) i) j 0 ≡ get_or xs (i * s + j) 0
+cell_at s i j xs hi hj =
+    let f = row_fits i s hi in
+    get_or-take s (drop (i * s) (take (s * s) xs)) j 0 hj ∙ get_or-drop (i * s) (take (s * s) xs) j 0 ∙ get_or-take (s * s) xs (i * s + j) 0 (omega arith)
 
 pub row_whole : (s i : ℕ) (xs : List ℕ) → i < s → row_in s (take (s * s) xs) i ≡ take s (drop (i * s) xs)
 row_whole s i xs h =

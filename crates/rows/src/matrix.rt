@@ -26,7 +26,7 @@ impl Matrix {
     {
         let side = self.side as usize;
         if i < side && j < side {
-            self.entries.get(i * side + j)
+            self.entries.cells[i * side + j]
         } else {
             0
         }
@@ -37,10 +37,10 @@ impl Matrix {
         ensures { row_of result ≡ row_in self.now.side (matrix_of self.now) i }
     {
         let side = self.side as usize;
-        if i >= side {
-            return Row::zero(0);
-        }
         let mut cells = [0; 16];
+        if i >= side {
+            return Row { count: 0, cells };
+        }
         cells[..side].copy_from_slice(&self.entries.cells[i * side..(i + 1) * side]);
         Row { count: side, cells }
     }
@@ -65,10 +65,10 @@ impl Matrix {
         ensures side { result.side ≡ min side 16 }
         ensures means { matrix_of result ≡ entries part.now (min side 16 * min side 16) }
     {
-        let side = side.min(16);
+        let n = side.min(16);
         Matrix {
-            side: side as u8,
-            entries: Entries::unpack(side * side, part),
+            side: n as u8,
+            entries: Entries::unpack(n * n, part),
         }
     }
 

@@ -3,11 +3,11 @@ use Rattle.rows.proofs.Cells.{length_front, row_whole, small_drop, small_front, 
 use Rattle.rows.proofs.owned.Matrix.row.Goals as goal
 use Rattle.std.proofs.lemmas.List.{length-take, take_at}
 
-pub invariant_of-result-clause-whole : goal.invariant_of-result-clause-whole
-invariant_of-result-clause-whole c = length_front c.args.self.now.side 16 c.copy_from_slice.new.self c.copy_from_slice.auto.self
+pub invariant_of-result-2-clause-whole : goal.invariant_of-result-2-clause-whole
+invariant_of-result-2-clause-whole c = length_front c.args.self.now.side 16 c.copy_from_slice.new.self c.copy_from_slice.auto.self
 
-pub invariant_of-result-clause-small : goal.invariant_of-result-clause-small
-invariant_of-result-clause-small c =
+pub invariant_of-result-2-clause-small : goal.invariant_of-result-2-clause-small
+invariant_of-result-2-clause-small c =
     let s = c.args.self.now.side in
     let m = c.args.self.now.entries in
     let from = c.args.i * s in
