@@ -70,7 +70,7 @@ impl Word for GateOrder {
     ghost means = { said };
 
     fn same(&self, other: &Self) -> bool {
-        self == other
+        *self == *other
     }
 }
 

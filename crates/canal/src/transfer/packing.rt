@@ -76,7 +76,7 @@ impl Word for Transfer {
     ghost means = { said };
 
     fn same(&self, other: &Self) -> bool {
-        self == other
+        *self == *other
     }
 }
 
