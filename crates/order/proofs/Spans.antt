@@ -174,10 +174,10 @@ added_passed f limit b X o left k e low =
     omega (arith, long, length-span o (b o) (column f limit X o - b o))
 
 -- what is asked for lies before, or in what is added
-after_earlier : (earlier : ℕ) (keys : List Key) (k : ℕ) → k < earlier → after earlier keys k ≡ None
+pub after_earlier : (earlier : ℕ) (keys : List Key) (k : ℕ) → k < earlier → after earlier keys k ≡ None
 after_earlier earlier keys k l = cond-false (leb earlier k) (slice_get keys (k - earlier)) None (lt-leb earlier k l)
 
-after_later : (earlier : ℕ) (keys : List Key) (k : ℕ) → earlier ≤ k → after earlier keys k ≡ slice_get keys (k - earlier)
+pub after_later : (earlier : ℕ) (keys : List Key) (k : ℕ) → earlier ≤ k → after earlier keys k ≡ slice_get keys (k - earlier)
 after_later earlier keys k l = cond-true (leb earlier k) (slice_get keys (k - earlier)) None (le-leb earlier k l)
 
 pub after_sub : (m earlier : ℕ) (r : Option ℕ) (k : ℕ) (keys : List Key) → m ≡ earlier → SomeIff r (m ≤ k) (k - m) → option_and_then (λ p. slice_get keys p) r ≡ after earlier keys k
