@@ -127,13 +127,18 @@ fn rest<T>(items: &[T], n: u32) -> &[T] {
 }
 
 impl<M: Machine + Drop> Bench<M> {
-    // One element more in each table.
-    pub fn lengthen(&mut self, machine: &M, u: M::Op) -> Result<(), AllocError> {
+    // One element more in each table; among the words this one, or an empty place.
+    pub fn lengthen(
+        &mut self,
+        machine: &M,
+        u: M::Op,
+        word: Option<M::Op>,
+    ) -> Result<(), AllocError> {
         self.wire.push(Slot {
             bytes: [0xDD; 194],
             len: 194,
         })?;
-        self.words.push(M::Op::unpack(u.pack()).ok())?;
+        self.words.push(word)?;
         self.votes.push(Some(Matrix::zero(3)))?;
         self.commits.push(Some(Matrix::zero(5)))?;
         self.kept.push(Row::zero(7))?;

@@ -84,15 +84,20 @@ fn shortened(rt: HostRuntime) -> Result<(), Fail> {
     Ok(())
 }
 
-// What lies behind the tables of a run is not touched, and the wire has as many places as it was fitted with: here one.
-#[test]
-fn surplus(rt: HostRuntime) -> Result<(), Fail> {
+// How many of these steps go as is wanted on a run that was fitted with this many places on the wire, and whose tables are lengthened
+// then, the words with this one or with an empty place. What lies behind them is not touched.
+fn over_longer(
+    heap: Global,
+    wire: u32,
+    word: Option<GateOrder>,
+    steps: &[(Step<'_>, Answer)],
+) -> Result<Option<usize>, Fail> {
     let board = GateBoard::new(12, true)?;
     let order = GateOrder::new(5, 1200, 366, 1439, 1)?;
-    let mut bench = Bench::new(rt.alloc(), Sizes::of(1, 2, 4), &board)?;
+    let n = Sizes::of(1, 2, wire);
+    let mut bench = Bench::new(heap, n, &board)?;
     let fitted = fitted((1, 2, 0, 8), &bench.lend())?;
-    bench.lengthen(&GateBoard::new(40, true)?, order)?;
-    let n = Sizes::of(1, 2, 4);
+    bench.lengthen(&GateBoard::new(40, true)?, order, word)?;
     let before = bench.behind(n);
     let mut t = bench.lend();
     // words that summaries would show, were they not cleared
@@ -102,6 +107,38 @@ fn surplus(rt: HostRuntime) -> Result<(), Fail> {
     let mut run = fitted
         .open(&mut t, &board)
         .map_err(|_| Fail::new("not opened"))?;
+    let done = play(&mut run, &mut t, (&order, &order), steps);
+    let kept = bench.behind(n) == before
+        && bench
+            .machines
+            .pop()
+            .is_some_and(|last| last.gate(39).is_some());
+    Ok(kept.then_some(done))
+}
+
+// The wire has as many places as it was fitted with: here one.
+#[test]
+fn surplus(rt: HostRuntime) -> Result<(), Fail> {
+    let steps = [
+        (Step::Summarise(2), Answer::At(0)),
+        (Step::Show(0, b"\x64\x40\x00\x00\x00"), Answer::Seen),
+        (Step::Summarise(2), Answer::No(27)),
+        (Step::Submit(2), Answer::No(27)),
+        (Step::Propose(0), Answer::No(27)),
+        (Step::Speak(3, b"\x66\x40\x00\x00\x00"), Answer::No(27)),
+        (Step::Show(1, b""), Answer::No(10)),
+    ];
+    assert_eq!(rt;
+        over_longer(rt.alloc(), 1, None, &steps)?,
+        Some(steps.len())
+    );
+    Ok(())
+}
+
+// Here four, and each call that sends is accepted once before the wire is full.
+#[test]
+fn surplus_after_all_calls(rt: HostRuntime) -> Result<(), Fail> {
+    let order = GateOrder::new(5, 1200, 366, 1439, 1)?;
     let steps = [
         (Step::Summarise(2), Answer::At(0)),
         (Step::Show(0, b"\x64\x40\x00\x00\x00"), Answer::Seen),
@@ -115,15 +152,8 @@ fn surplus(rt: HostRuntime) -> Result<(), Fail> {
         (Step::Show(4, b""), Answer::No(10)),
     ];
     assert_eq!(rt;
-        play(&mut run, &mut t, (&order, &order), &steps),
-        steps.len()
-    );
-    assert!(rt; bench.behind(n) == before);
-    assert!(rt;
-        bench
-            .machines
-            .pop()
-            .is_some_and(|last| last.gate(39).is_some())
+        over_longer(rt.alloc(), 4, Some(order), &steps)?,
+        Some(steps.len())
     );
     Ok(())
 }
