@@ -26,6 +26,7 @@ impl Matrix {
     {
         let side = self.side as usize;
         if i < side && j < side {
+            // Read from the array, since `get` of entries would test the place a second time.
             self.entries.cells[i * side + j]
         } else {
             0
